@@ -1,0 +1,6 @@
+pub mod Bits
+pub mod Members
+pub mod Lowest
+pub mod Sums
+pub mod Counts
+pub mod Tables

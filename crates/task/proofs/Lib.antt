@@ -1,0 +1,5 @@
+pub mod Bands
+pub mod Tables
+pub mod Joining
+pub mod Ranking
+pub mod Filed

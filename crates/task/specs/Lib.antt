@@ -1,0 +1,4 @@
+pub mod Tables
+pub mod Priorities
+pub mod Refusals
+pub mod Filing

@@ -1,0 +1,2 @@
+pub mod Lawfuls
+pub mod Ancestors
