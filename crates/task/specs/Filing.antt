@@ -8,7 +8,7 @@ use lib.Dec.{eqb, ltb}
 use lib.ListN.{getD, length, take}
 use Rattle.std.specs.declared.result.Result.{Result}
 use Rattle.std.specs.declared.result.Result.the-variants.{Ok, Err}
-use Rattle.sets.specs.Sets.{member}
+use Rattle.sets.specs.Sets.{member, sum, count}
 use Rattle.theory.specs.Tasks.{Task, Leads}
 use Rattle.task.specs.Tables.{taskFrom}
 use Rattle.task.specs.declared.stages.Entering.{Entering}
@@ -100,6 +100,10 @@ module _ {P : Type 0} (notAfter : P → P → Bool) where
   RankSays l ps (Err Count) m = (length ps ≡ linkingTask l .pieces → ⊥) × (m ≡ l)
 
 -- ---- questions
+
+-- how many edges the task has: for each piece as many as it has predecessors
+unfoldable pub edgesOf : Task → ℕ
+edgesOf t = sum (t .pieces) (λ b. count (t .pieces) (λ a. t .edge a b))
 
 -- r is the set of the pieces that stand in the relation to piece k, and empty where k is no piece of the task
 abbrev pub Related : Task → (ℕ → ℕ → Bool) → ℕ → ℕ → Type 0

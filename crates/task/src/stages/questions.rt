@@ -6,8 +6,9 @@ ghost use mathlib.Core.Logic.{_↔_};
 ghost use lib.Dec.{ltb};
 ghost use Rattle.sets.specs.Sets.{member};
 ghost use Rattle.theory.specs.Tasks.{Leads};
-ghost use Rattle.task.specs.Filing.{Related, filedTask};
+ghost use Rattle.task.specs.Filing.{Related, edgesOf, filedTask};
 use crate::stages::Filed;
+use sets::size;
 
 impl Filed {
     // How many pieces there are: they are numbered from 0.
@@ -17,11 +18,26 @@ impl Filed {
         self.tables.pieces
     }
 
+    // How many edges there are.
+    pub fn edges(&self) -> u32
+        ensures { λ r. ⌜ r ≡ edgesOf (filedTask (now (self .entry))) ⌝ }
+    {
+        let mut edges = 0;
+        for k in 0..self.tables.pieces {
+            edges += size(self.tables.predecessors[k]);
+        }
+        edges
+    }
+
     // The worst time of piece k, and 0 past the task.
     pub fn worst(&self, k: usize) -> u32
         ensures { λ r. ⌜ r ≡ cond (ltb k (filedTask (now (self .entry)) .pieces)) (filedTask (now (self .entry)) .worst k) 0 ⌝ }
     {
-        if k < self.tables.pieces { self.tables.worst[k] } else { 0 }
+        if k < self.tables.pieces {
+            self.tables.worst[k]
+        } else {
+            0
+        }
     }
 
     // The pieces from which an edge leads to piece k.
