@@ -14,8 +14,8 @@ ghost-self c =
     let room : e .count < length (e .worst) = omega arith in (
       omega arith,
       (
-        set-below (λ _ n. 1 ≤ n) (e .worst) (e .count) (c .args .worst) room (e .least) (c .if-worst-lt1 .left),
-        (set-below (λ _ n. n ≤ 65535) (e .worst) (e .count) (c .args .worst) room (e .most) (c .if-worst-gt65535 .left), tt),
+        set-below (λ _ n. 1 ≤ n) (e .worst) (e .count) (c .args .worst) room (e .least) (omega arith),
+        (set-below (λ _ n. n ≤ 65535) (e .worst) (e .count) (c .args .worst) room (e .most) (omega arith), tt),
       ),
     )
 
@@ -24,4 +24,4 @@ returns c =
     let e = c .args .self .now in
     let room : e .count < length (e .worst) = omega arith in
     let many : length (take (e .count) (e .worst)) ≡ e .count = length-take-le (e .count) (e .worst) (omega arith) in
-    (omega arith, (c .if-worst-lt1 .left, c .if-worst-gt65535 .left), sym many, take-more-set (e .worst) (e .count) (c .args .worst) room)
+    (omega arith, (omega arith, omega arith), sym many, take-more-set (e .worst) (e .count) (c .args .worst) room)
