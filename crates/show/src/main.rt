@@ -34,7 +34,10 @@ fn print_task(rt: &impl Print, task: &Filed) -> io::Result<()> {
         let rank = priority.0;
         let predecessors = Pieces(task.predecessors(k));
         let ancestors = Pieces(task.ancestors(k));
-        println!(rt, "piece {k}: worst time {worst}, priority {rank}, predecessors {predecessors}, ancestors {ancestors}")?;
+        println!(
+            rt,
+            "piece {k}: worst time {worst}, priority {rank}, predecessors {predecessors}, ancestors {ancestors}"
+        )?;
     }
     let pieces = task.pieces();
     let edges = task.edges();

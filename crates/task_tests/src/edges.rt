@@ -70,7 +70,11 @@ fn edges_are_refused_in_order() -> Result<(), Fail> {
     }
     let task = linking.file();
     check(task.edges() == 5 && task.ancestors(4) == 0b1011 && task.ancestors(2) == 0b101011)?;
-    check(task.predecessors(4) == 0b1 && task.predecessors(0) == 0b1000 && task.ancestors(0) == 0b1010)
+    check(
+        task.predecessors(4) == 0b1
+            && task.predecessors(0) == 0b1000
+            && task.ancestors(0) == 0b1010,
+    )
 }
 
 #[test]
@@ -81,5 +85,9 @@ fn a_chain_of_64_ends_at_piece_63() -> Result<(), Fail> {
     }
     check_eq(refused(linking.link(63, 0)), 23)?;
     let task = linking.file();
-    check(task.edges() == 63 && task.ancestors(63) == u64::MAX >> 1 && task.predecessors(63) == 1 << 62)
+    check(
+        task.edges() == 63
+            && task.ancestors(63) == u64::MAX >> 1
+            && task.predecessors(63) == 1 << 62,
+    )
 }

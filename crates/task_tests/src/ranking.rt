@@ -45,17 +45,31 @@ fn each_piece_has_one_priority() -> Result<(), Fail> {
         check_eq(refusal.number(), 13)?;
     }
     let task = linking.file();
-    check(task.not_after(0) == 0b111 && task.not_after(2) == 0b111).note("without a ranking all are equal")
+    check(task.not_after(0) == 0b111 && task.not_after(2) == 0b111).note(
+        "without a ranking all are equal",
+    )
 }
 
 #[test]
 fn the_smaller_is_ahead() -> Result<(), Fail> {
     check(ranks(&[Plain(0), Plain(255), Plain(0)], [0b101, 0b111, 0b101]))?;
-    let numbers = [banded(Band::One, 0), banded(Band::Zero, 255), banded(Band::Zero, 1)];
+    let numbers = [
+        banded(Band::One, 0),
+        banded(Band::Zero, 255),
+        banded(Band::Zero, 1),
+    ];
     check(ranks(&numbers, [0b111, 0b110, 0b100]))?;
-    let bands = [banded(Band::Three, 7), banded(Band::Two, 9), banded(Band::Three, 7)];
+    let bands = [
+        banded(Band::Three, 7),
+        banded(Band::Two, 9),
+        banded(Band::Three, 7),
+    ];
     check(ranks(&bands, [0b111, 0b010, 0b111]))?;
-    let deadlines = [Deadline { tick: 100000 }, Deadline { tick: 9 }, Deadline { tick: 70000 }];
+    let deadlines = [
+        Deadline { tick: 100000 },
+        Deadline { tick: 9 },
+        Deadline { tick: 70000 },
+    ];
     check(ranks(&deadlines, [0b111, 0b010, 0b110]))
 }
 
