@@ -1,1 +1,2 @@
+-- Lemmas on tasks from lists.
 pub mod Filing

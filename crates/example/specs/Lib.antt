@@ -1,2 +1,3 @@
+-- Definitions that the contracts on lists cite.
 pub mod Lists
 pub mod Worked

@@ -1,3 +1,4 @@
+-- The shelf of lemmas on masks, by topic.
 pub mod Bits
 pub mod Members
 pub mod Lowest

@@ -1,1 +1,2 @@
+-- Definitions: sets as numbers.
 pub mod Sets

@@ -16,7 +16,7 @@ use Rattle.task.specs.Filing.{OnTask, Circle, Linked}
 use Rattle.task.proofs.Tables.{edges-more}
 
 module _ {t : Task} (law : Lawful t) where
-  -- what the code's test says of circles
+  -- what the test of the ancestors says of circles
   pub no-circle : (a b : ℕ) → (a ≡ b → ⊥) → t .ancestor b a ≡ false → Circle t a b → ⊥
   no-circle a b ne free c = Or·elim (λ x y. absurd x) c ne (λ w. both-ways (t .ancestor b a) free (law .exact b a .1 ∣ w ∣₁))
 
@@ -24,8 +24,7 @@ module _ {t : Task} (law : Lawful t) where
   circle a b h = ∥∥₁-elim (law .exact b a .0 h) ∥∥₁-prop (λ w. Or·inr w)
 
 module _ {t s : Task} (law : Lawful t) (a b : ℕ) (on : OnTask t a b) (open-yet : Circle t a b → ⊥)
-    (link : Linked t a b s)
-    (grown : (x y : ℕ) → s .ancestor x y ≡ (t .ancestor x y || ((eqb y b || t .ancestor b y) && (eqb a x || t .ancestor x a)))) where
+    (link : Linked t a b s) (grown : (x y : ℕ) → s .ancestor x y ≡ (t .ancestor x y || ((eqb y b || t .ancestor b y) && (eqb a x || t .ancestor x a)))) where
   ne : a ≡ b → ⊥
   ne e = open-yet (Or·inl e)
 
@@ -38,9 +37,11 @@ module _ {t s : Task} (law : Lawful t) (a b : ℕ) (on : OnTask t a b) (open-yet
   lift : {x y : ℕ} → Leads t x y → Leads s x y
   lift = leads-same (λ x y e. link .2 x y ∙ or-left (t .edge x y) (eqb a x && eqb b y) e)
 
+  -- an edge of the new task is one of the old, or the new one
   EdgeWay : ℕ → ℕ → Type 0
   EdgeWay x y = (t .edge x y ≡ true) ⊎ ((a ≡ x) × (b ≡ y))
 
+  -- x leads to y as before, or over the new edge
   Way : ℕ → ℕ → Type 0
   Way x y = (t .ancestor x y ≡ true) ⊎ (((y ≡ b) ⊎ (t .ancestor b y ≡ true)) × ((a ≡ x) ⊎ (t .ancestor x a ≡ true)))
 
@@ -50,6 +51,7 @@ module _ {t s : Task} (law : Lawful t) (a b : ℕ) (on : OnTask t a b) (open-yet
       ⊎-elim inl (λ n. let p = and-parts (eqb a x) (eqb b y) n in inr (eqb-true a x (p .0), eqb-true b y (p .1)))
       (or-cases (t .edge x y) (eqb a x && eqb b y) (sym (link .2 x y) ∙ e))
 
+  -- the new ancestor sets say just that
   way : (x y : ℕ) → s .ancestor x y ≡ true → Way x y
   unfolding Way
   way x y h =
@@ -74,6 +76,7 @@ module _ {t s : Task} (law : Lawful t) (a b : ℕ) (on : OnTask t a b) (open-yet
   never y (inl e) p = ne (p ∙ e)
   never y (inr h) p = both-ways (t .ancestor b a) free (ap (t .ancestor b) p ∙ h)
 
+  -- so each way along the new task's edges is such
   step : (x y z : ℕ) → Way x y → EdgeWay y z → Way x z
   unfolding Way EdgeWay
   step x y z (inl h) (inl e) = inl (ancestor-more law x y z h e)
@@ -91,6 +94,7 @@ module _ {t s : Task} (law : Lawful t) (a b : ℕ) (on : OnTask t a b) (open-yet
   ways {x} {y} (Leads.one e) = start x y (edge-way x y e)
   ways {x} {y} (Leads.more {b = z} l e) = step x z y (ways l) (edge-way z y e)
 
+  -- and each such is a way along them
   to-b : (x : ℕ) → (a ≡ x) ⊎ (t .ancestor x a ≡ true) → ∥ Leads s x b ∥₁
   to-b x (inl e) = ∣ Leads.one (subst (λ z. s .edge z b ≡ true) e new-edge) ∣₁
   to-b x (inr h) = ∥∥₁-map (law .exact x a .0 h) (λ w. Leads.more (lift w) new-edge)
@@ -104,6 +108,7 @@ module _ {t s : Task} (law : Lawful t) (a b : ℕ) (on : OnTask t a b) (open-yet
   leads-of x y (inl h) = ∥∥₁-map (law .exact x y .0 h) lift
   leads-of x y (inr g) = ∥∥₁-elim (to-b x (g .1)) ∥∥₁-prop (λ w. from-b x y (g .0) w)
 
+  -- but not from a piece to itself
   no-way : (x : ℕ) → Way x x → ⊥
   unfolding Way
   no-way x (inl h) = both-ways (t .ancestor x x) (law .acyclic x) h
@@ -118,6 +123,7 @@ module _ {t s : Task} (law : Lawful t) (a b : ℕ) (on : OnTask t a b) (open-yet
   on-task x y (inl e) = law .ends x y e
   on-task x y (inr q) = (subst (λ n. n < t .pieces) (q .0) (on .0), subst (λ n. n < t .pieces) (q .1) (on .1))
 
+  -- the ancestors are exact again, and no piece is its own
   pub linked-lawful : Lawful s
   linked-lawful = record {
     few = subst (λ n. n ≤ 64) (sym (link .0)) (law .few);

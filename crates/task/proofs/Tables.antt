@@ -27,26 +27,27 @@ edges-more l a b new h w x y =
     ∙ ap (λ c. member (getD l y 0) x || c) (sym (and-right (eqb a x) (eqb b y) (ne-eqb b y (λ e. d (sym e))))))
     (cases-eq y b)
 
-past : (l : List ℕ) → length l ≡ 64 → (y x : ℕ) → 64 ≤ y → member (getD l y 0) x ≡ false
-past l e y x h = ap (λ n. member n x) (getD-past l y 0 (omega arith)) ∙ member-zero x
+-- ---- a table of sets that a loop writes one by one
 
--- the sets of what leads to each piece, past the table too
-pub reached-all : (old new : List ℕ) (a b : ℕ) → length old ≡ 64 → length new ≡ 64 → b < 64 → Reached old a b 64 new → (x y : ℕ) → member (getD new y 0) x ≡ leadsOn old a b x y
-reached-all old new a b e f h r x y =
-    ⊎-elim (λ l. r y l x)
-    (λ l. past new f y x l ∙ sym (or-from (member (getD old y 0) x) ((eqb y b || member (getD old y 0) b) && (eqb a x || member (getD old a 0) x)) (past old e y x l)
-    (and-left (eqb y b || member (getD old y 0) b) (eqb a x || member (getD old a 0) x) (or-from (eqb y b) (member (getD old y 0) b) (ne-eqb y b (λ q. omega arith)) (past old e y b l)))))
-    (cases-lt y 64)
-
--- rows past the ones written are as they were
+-- those past the one written are empty as they were
 pub empty-more : (l : List ℕ) (i v : ℕ) → EmptyFrom i l → EmptyFrom (i + 1) (set l i v)
 empty-more l i v h y x lt = ap (λ n. member n x) (getD-set-other l i y v 0 (λ e. omega arith)) ∙ h y x (omega arith)
 
+-- those up to the one written hold what passes the test
 pub columns-more : (n : ℕ) (p : ℕ → ℕ → Bool) (l : List ℕ) (i v : ℕ) → i < length l → Columns n p i l → SetOf n (λ x. p x i) v → Columns n p (i + 1) (set l i v)
 columns-more n p l i v h old new = set-below (λ y set. SetOf n (λ x. p x y) set) l i v h old new
 
 pub columns-none : (n : ℕ) (p : ℕ → ℕ → Bool) (l : List ℕ) → Columns n p 0 l
 columns-none n p l y h = absurd (omega arith)
+
+-- the set of all pieces, written for each
+pub all-below : (n set : ℕ) → n ≤ 64 → SetOf 64 (λ k. ltb k n) set → SetOf n (λ _. true) set
+all-below n set few all k =
+    all k ∙ ⊎-elim (λ l. ap₂ _&&_ (lt-ltb k 64 (omega arith)) (lt-ltb k n l) ∙ sym (ap (λ b. b && true) (lt-ltb k n l)))
+    (λ l. and-right (ltb k 64) (ltb k n) (le-ltb k n l) ∙ sym (ap (λ b. b && true) (le-ltb k n l)))
+    (cases-lt k n)
+
+-- ---- the ancestors with one more edge
 
 swapped : (m e : Bool) → (m || (e && true)) ≡ (e || m)
 swapped true true = refl
@@ -54,7 +55,7 @@ swapped true false = refl
 swapped false true = refl
 swapped false false = refl
 
--- one more set of what leads to a piece
+-- the set of what leads to one more piece
 pub reached-more : (old table : List ℕ) (a b i gained r : ℕ) (led : Bool) → i < 64 → length table ≡ 64 → Reached old a b i table
     → ((j : ℕ) → member gained j ≡ (member (getD old a 0) j || (eqb a j && true))) → led ≡ member (getD old i 0) b
     → ((j : ℕ) → member r j ≡ (member (getD old i 0) j || ((eqb i b || led) && member gained j)))
@@ -65,11 +66,13 @@ reached-more old table a b i gained r led lt e so g is w = (
       (λ x. w x ∙ ap₂ (λ c d. member (getD old i 0) x || ((eqb i b || c) && d)) is (g x ∙ swapped (member (getD old a 0) x) (eqb a x))),
 )
 
--- ---- one more set in a table of sets
+past : (l : List ℕ) → length l ≡ 64 → (y x : ℕ) → 64 ≤ y → member (getD l y 0) x ≡ false
+past l e y x h = ap (λ n. member n x) (getD-past l y 0 (omega arith)) ∙ member-zero x
 
--- the set of all pieces, written for each
-pub all-below : (n set : ℕ) → n ≤ 64 → SetOf 64 (λ k. ltb k n) set → SetOf n (λ _. true) set
-all-below n set few all k =
-    all k ∙ ⊎-elim (λ l. ap₂ _&&_ (lt-ltb k 64 (omega arith)) (lt-ltb k n l) ∙ sym (ap (λ b. b && true) (lt-ltb k n l)))
-    (λ l. and-right (ltb k 64) (ltb k n) (le-ltb k n l) ∙ sym (ap (λ b. b && true) (le-ltb k n l)))
-    (cases-lt k n)
+-- all of them, past the table too
+pub reached-all : (old new : List ℕ) (a b : ℕ) → length old ≡ 64 → length new ≡ 64 → b < 64 → Reached old a b 64 new → (x y : ℕ) → member (getD new y 0) x ≡ leadsOn old a b x y
+reached-all old new a b e f h r x y =
+    ⊎-elim (λ l. r y l x)
+    (λ l. past new f y x l ∙ sym (or-from (member (getD old y 0) x) ((eqb y b || member (getD old y 0) b) && (eqb a x || member (getD old a 0) x)) (past old e y x l)
+    (and-left (eqb y b || member (getD old y 0) b) (eqb a x || member (getD old a 0) x) (or-from (eqb y b) (member (getD old y 0) b) (ne-eqb y b (λ q. omega arith)) (past old e y b l)))))
+    (cases-lt y 64)

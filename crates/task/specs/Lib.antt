@@ -1,3 +1,4 @@
+-- Definitions that the contracts of filing cite.
 pub mod Tables
 pub mod Priorities
 pub mod Refusals

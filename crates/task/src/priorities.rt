@@ -12,6 +12,7 @@ pub trait Priority {
 
     law transitive: { (a b c : Self) → notAfter a b ≡ true → notAfter b c ≡ true → notAfter a c ≡ true };
 
+    // Whether this priority is not after the other.
     fn not_after(&self, other: &Self) -> bool
         ensures { λ r. ⌜ r ≡ notAfter (now (self .entry)) (now (other .entry)) ⌝ };
 }

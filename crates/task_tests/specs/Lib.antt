@@ -1,1 +1,2 @@
+-- Definitions of the kind of priority that is declared here.
 pub mod Deadlines

@@ -1,2 +1,3 @@
+-- Lemmas on the model, by topic.
 pub mod Lawfuls
 pub mod Ancestors

@@ -1,1 +1,2 @@
+-- Definitions: the model.
 pub mod Tasks

@@ -1,3 +1,4 @@
+-- The set is the table's, which by its type is exactly what leads there; nothing leads to where the task has no piece.
 use Prim.Native.Nat.{ℕ}
 use native.Mathlib.Omega.{arith}
 use mathlib.Core.Path.{_≡_, sym, ap, _∙_}

@@ -1,3 +1,4 @@
+-- The members of a union.
 use mathlib.Core.Path.{ap, sym, _∙_}
 use mathlib.Core.Bool.{_||_, _&&_}
 use Rattle.sets.specs.Sets.{member}

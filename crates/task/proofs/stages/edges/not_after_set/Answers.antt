@@ -1,3 +1,4 @@
+-- Each turn adds the next piece where its priority is not after that of piece k.
 use Prim.Native.Nat.{ℕ}
 use native.Mathlib.Omega.{arith}
 use mathlib.Core.Path.{_≡_, ap₂, subst, _∙_}

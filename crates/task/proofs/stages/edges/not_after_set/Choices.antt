@@ -1,3 +1,4 @@
+-- The set holds the pieces passed whose priorities are not after that of piece k.
 use lib.ListN.{getD}
 use Rattle.sets.specs.Sets.{SetOf}
 use Rattle.task.proofs.stages.edges.not_after_set.Given as given

@@ -1,3 +1,4 @@
+-- Each turn writes the next piece's set.
 use Prim.Native.Nat.{ℕ}
 use native.Mathlib.Omega.{arith}
 use mathlib.Core.Path.{_≡_, refl, subst}

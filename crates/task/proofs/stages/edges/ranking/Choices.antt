@@ -1,3 +1,4 @@
+-- The sets of the pieces passed are written, and the others are empty.
 use mathlib.Core.Path.{_≡_}
 use lib.ListN.{length, getD}
 use Rattle.task.specs.Tables.{Columns, EmptyFrom}

@@ -1,3 +1,4 @@
+-- What leads to the pieces passed is written.
 use mathlib.Core.Path.{_≡_}
 use lib.ListN.{length}
 use Rattle.task.specs.Tables.{Reached}

@@ -1,3 +1,4 @@
+-- Each turn writes the next piece's set, which is that of all.
 use native.Mathlib.Omega.{arith}
 use mathlib.Core.Path.{refl}
 use mathlib.Core.Bool.{true}

@@ -1,3 +1,4 @@
+-- The sets of the pieces passed are written, and the others are empty.
 use mathlib.Core.Path.{_≡_}
 use mathlib.Core.Bool.{true}
 use lib.ListN.{length}
