@@ -2,7 +2,7 @@
 use Prim.Native.Nat.{ℕ, _+_, _<_}
 use mathlib.Core.Path.{_≡_, refl, sym, ap, subst, _∙_}
 use mathlib.Core.List.{List, [], _∷_, _++_}
-use mathlib.Core.Bool.{Bool, true, false, _&&_, _||_, or-false}
+use mathlib.Core.Bool.{Bool, true, false, _&&_, _||_, or-false, or-assoc}
 use lib.Dec.{eqb}
 use lib.ListN.{getD, length, take, drop}
 use Rattle.std.specs.declared.result.Result.the-variants.{Ok, Err}
@@ -45,10 +45,6 @@ pub rank-kept : {P : Type 0} (notAfter : P → P → Bool) (l m : Linking) (ps :
 rank-kept notAfter l m ps Count h = h .1
 
 -- ---- one more edge of the list
-
-or-assoc : (x y z : Bool) → ((x || y) || z) ≡ (x || (y || z))
-or-assoc true y z = refl
-or-assoc false y z = refl
 
 joins-push : (front : List Edge) (e : Edge) (a b : ℕ) → joins (front ++ (e ∷ [])) a b ≡ (joins front a b || (eqb (e .0) a && eqb (e .1) b))
 joins-push [] e a b = or-false (eqb (e .0) a && eqb (e .1) b)

@@ -1,7 +1,7 @@
 -- The bits of a number one by one, as numbers below two: what `&`, `|`, `^`, `!` and a shift do to them. Assumes nothing.
 use Prim.Native.Nat.{ℕ, zero, suc, _+_, _-_, _/_, _%_, _^_, _<_, _≤_, min, max}
 use mathlib.Core.Path.{_≡_, refl, sym, ap, _∙_}
-use mathlib.Core.Bool.{Bool, true, false, not, _&&_, _||_, cond}
+use mathlib.Core.Bool.{cond}
 use mathlib.Core.Logic.{_⊎_, inl, inr}
 use native.Mathlib.Nat.{pow-suc, zero-add, lt-of-lt-of-le}
 use native.Mathlib.Numerals.{one-add}
@@ -9,7 +9,7 @@ use native.Mathlib.Omega.{arith}
 use lib.Dec.{eqb, lit<, eqb·suc-suc}
 use lib.Bits.{bitAnd, bitOr, bitXor, and-shr, or-shr, and-step, or-step, xor-shr, xor-mod}
 use lib.Pow.{pow-pos, shr-shr, shr-le, shr-lt, pow-mono}
-use Rattle.std.proofs.shelf.Tests.{eq-eqb, ne-eqb}
+use Rattle.std.proofs.shelf.Tests.{ne-eqb}
 
 -- the bit of s at k
 abbrev pub bit : ℕ → ℕ → ℕ

@@ -1,17 +1,17 @@
 -- How many pieces pass a test, how many a set has, and that `count_ones` says so. Assumes nothing.
-use Prim.Native.Nat.{ℕ, zero, suc, _+_, _/_, _%_, _^_, _≤_, _<_}
+use Prim.Native.Nat.{ℕ, zero, suc, _+_, _/_, _^_, _≤_, _<_}
 use mathlib.Core.Path.{_≡_, refl, sym, ap, _∙_}
 use mathlib.Core.Bool.{Bool, true, false, cond, not, _&&_, _||_}
 use native.Mathlib.Nat.{pow-suc}
 use native.Mathlib.Omega.{arith}
-use lib.Dec.{eqb, ltb}
+use lib.Dec.{eqb}
 use lib.Bits.{bitAnd, bitOr}
 use lib.Count.{ones, ones-step, ones-ones}
-use Rattle.std.proofs.shelf.Tests.{both-ways, eqb-true, ne-eqb, lt-ltb}
+use Rattle.std.proofs.shelf.Tests.{both-ways, eqb-true}
 use Rattle.sets.specs.Sets.{member, sum, count, sumOver, sizeOf}
 use Rattle.sets.proofs.Bits.{bit-first}
-use Rattle.sets.proofs.Members.{cond-member, member-next, member-or}
-use Rattle.sets.proofs.Sums.{sum-same, sum-mono, sum-strict, sum-or, sum-add, sum-at, sum-over-none, sum-over-or, sum-over-without, cond-mono}
+use Rattle.sets.proofs.Members.{cond-member, member-next}
+use Rattle.sets.proofs.Sums.{sum-same, sum-mono, sum-strict, sum-add, sum-at, sum-over-none, sum-over-or, sum-over-without, cond-mono}
 
 -- ---- how many of the pieces below n
 

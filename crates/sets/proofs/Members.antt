@@ -1,14 +1,14 @@
 -- What the operations on masks do to the members, and sets by their members alone. Assumes nothing.
-use Prim.Native.Nat.{ℕ, zero, suc, _+_, _-_, _/_, _%_, _^_, _≤_, _<_, min, max}
+use Prim.Native.Nat.{ℕ, suc, _+_, _-_, _/_, _%_, _^_, _≤_, _<_, min, max}
 use mathlib.Core.Path.{_≡_, refl, sym, ap, _∙_}
-use mathlib.Core.Bool.{Bool, true, false, cond, not, _&&_, _||_, or-false, and-true}
-use mathlib.Core.Logic.{_⊎_, inl, inr, ⊎-elim}
+use mathlib.Core.Bool.{Bool, true, false, cond, not, _&&_, _||_, or-false}
+use mathlib.Core.Logic.{⊎-elim}
 use native.Mathlib.Omega.{arith}
 use lib.Arith.{bin-ind, le-zero}
 use lib.Dec.{eqb, ltb}
 use lib.Bits.{bitAnd, bitOr, bitXor}
 use lib.Pow.{pow-lt, pow-pos}
-use Rattle.std.proofs.shelf.Tests.{cases-bool, cases-lt, cases-order, both-ways, and-parts, and-from, eqb-true, eqb-false, eq-eqb, ne-eqb, lt-ltb, le-ltb, ltb-true, false≢true, true≢false}
+use Rattle.std.proofs.shelf.Tests.{cases-lt, cases-order, both-ways, and-parts, and-from, eqb-true, eqb-false, eq-eqb, ne-eqb, lt-ltb, le-ltb, ltb-true, false≢true, true≢false}
 use Rattle.std.proofs.shelf.Ways.{tells}
 use Rattle.sets.specs.Sets.{member, within, apart, SetOf}
 use Rattle.sets.proofs.Bits.{bit, bit-two, bit-next, bit-first, bit-and, bit-or, bit-xor, bit-above, bit-zero, bit-not, bit-one, two-bits}

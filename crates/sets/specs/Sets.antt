@@ -1,7 +1,7 @@
 -- Sets of pieces as numbers: bit k of a set, worth 2 to the power k, stands for piece k. Assumes nothing.
 use Prim.Native.Nat.{ℕ, zero, suc, _+_, _/_, _%_, _^_}
 use mathlib.Core.Path.{_≡_}
-use mathlib.Core.Bool.{Bool, true, false, cond, _&&_}
+use mathlib.Core.Bool.{Bool, cond, _&&_}
 use lib.Dec.{eqb, ltb}
 use lib.Bits.{bitAnd}
 

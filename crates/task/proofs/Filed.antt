@@ -1,12 +1,12 @@
 -- For whoever is handed a filed task: it is lawful, and how its edges are counted. Assumes nothing.
-use Prim.Native.Nat.{ℕ, _+_, _*_, _≤_, _<_}
+use Prim.Native.Nat.{ℕ, _+_, _*_, _≤_}
 use native.Mathlib.Omega.{arith}
-use mathlib.Core.Path.{_≡_, refl, sym, ap, _∙_}
+use mathlib.Core.Path.{_≡_, sym, ap, _∙_}
 use mathlib.Core.Logic.{⊎-elim}
-use mathlib.Core.Bool.{Bool, true, false, cond}
+use mathlib.Core.Bool.{cond}
 use lib.ListN.{getD}
 use Rattle.std.proofs.shelf.Tests.{cases-bool, cond-both}
-use Rattle.sets.specs.Sets.{member, sum, count, sizeOf}
+use Rattle.sets.specs.Sets.{sum, count, sizeOf}
 use Rattle.sets.proofs.Sums.{sum-more, sum-cut, sum-small}
 use Rattle.theory.specs.Tasks.{Task, Lawful}
 use Rattle.theory.proofs.Lawfuls.{lawful-of}

@@ -1,9 +1,8 @@
 -- A lawful task with one more edge that closes no circle is lawful. Assumes nothing.
 use Prim.Native.Nat.{ℕ, _≤_, _<_}
-use native.Mathlib.Omega.{arith}
 use mathlib.Core.Path.{_≡_, refl, sym, ap, subst, _∙_}
 use mathlib.Core.Logic.{_⊎_, inl, inr, ⊎-elim, ∥∥₁-elim, ∥∥₁-map, ∥∥₁-prop, ∨₁-prop, Or·inl, Or·inr, Or·elim}
-use mathlib.Core.Bool.{Bool, true, false, _&&_, _||_, Bool-set}
+use mathlib.Core.Bool.{true, false, _&&_, _||_, Bool-set}
 use mathlib.Core.List.{List}
 use lib.Dec.{eqb}
 use lib.ListN.{getD, length, set}

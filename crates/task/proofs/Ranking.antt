@@ -1,17 +1,17 @@
 -- Closed and ranked tasks are lawful. Assumes nothing.
-use Prim.Native.Nat.{ℕ, _+_, _≤_, _<_}
+use Prim.Native.Nat.{ℕ, _≤_, _<_}
 use native.Mathlib.Omega.{arith}
 use mathlib.Core.Path.{_≡_, refl, sym, ap, subst, _∙_}
 use mathlib.Core.List.{List, [], _∷_}
 use mathlib.Core.Logic.{⊎-elim, ∥∥₁-elim, ∥∥₁-map, Or·inl, Or·inr}
-use mathlib.Core.Bool.{Bool, true, false, _&&_, _||_, Bool-set}
-use lib.Dec.{eqb, ltb}
+use mathlib.Core.Bool.{Bool, true, _&&_, _||_, Bool-set}
+use lib.Dec.{ltb}
 use lib.ListN.{getD, length, replicate}
 use Rattle.std.proofs.shelf.Tests.{both-ways, cases-lt, and-parts, and-from, and-right, or-cases, lt-ltb, le-ltb, ltb-true}
 use Rattle.sets.specs.Sets.{member}
 use Rattle.theory.specs.Tasks.{Task, Leads, Lawful}
 use Rattle.task.specs.Tables.{taskFrom, Columns, EmptyFrom}
-use Rattle.task.specs.Filing.{OnTask, Ranked}
+use Rattle.task.specs.Filing.{Ranked}
 use Rattle.sets.proofs.Tables.{none-in-zeros}
 use Rattle.theory.proofs.Ancestors.{leads-same}
 

@@ -6,13 +6,13 @@ use mathlib.Core.List.{List}
 use mathlib.Core.Logic.{⊎-elim}
 use mathlib.Core.Bool.{Bool, true, false, _&&_, _||_, or-false}
 use lib.Dec.{eqb, ltb}
-use lib.ListN.{getD, length, set, replicate}
+use lib.ListN.{getD, length, set}
 use lib.Seq.{getD-set-same, getD-set-other}
 use Rattle.std.proofs.shelf.Lists.{getD-past}
 use Rattle.std.proofs.shelf.Tests.{cases-lt, cases-eq, eq-eqb, ne-eqb, lt-ltb, le-ltb, and-right, or-from, and-left}
 use Rattle.sets.specs.Sets.{member, SetOf}
 use Rattle.sets.proofs.Members.{member-zero}
-use Rattle.sets.proofs.Tables.{none-in-zeros, kept-length, set-below}
+use Rattle.sets.proofs.Tables.{kept-length, set-below}
 use Rattle.task.specs.Tables.{leadsOn, Reached, Columns, EmptyFrom}
 
 -- one more edge

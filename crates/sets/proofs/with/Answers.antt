@@ -1,5 +1,5 @@
 -- `set | 1 << k` has the members of the set, and piece k.
-use Prim.Native.Nat.{ℕ, _^_}
+use Prim.Native.Nat.{ℕ}
 use native.Mathlib.Omega.{arith}
 use mathlib.Core.Path.{ap, sym, _∙_}
 use mathlib.Core.Bool.{_||_, _&&_, and-true}

@@ -1,6 +1,6 @@
 -- One more edge behind those entered, up to one that is refused.
-use Prim.Native.Nat.{ℕ, _+_}
-use mathlib.Core.Path.{_≡_, sym, subst}
+use Prim.Native.Nat.{_+_}
+use mathlib.Core.Path.{sym, subst}
 use lib.ListN.{getD, take, drop}
 use Rattle.std.specs.declared.result.Result.the-variants.{Err}
 use Rattle.std.proofs.shelf.Lists.{take-all}

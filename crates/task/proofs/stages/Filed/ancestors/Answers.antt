@@ -1,15 +1,12 @@
 -- The set is the table's, which by its type is exactly what leads there; nothing leads to where the task has no piece.
-use Prim.Native.Nat.{ℕ}
 use native.Mathlib.Omega.{arith}
-use mathlib.Core.Path.{_≡_, sym, ap, _∙_}
+use mathlib.Core.Path.{sym, ap, _∙_}
 use mathlib.Core.Logic.{∥∥₁-elim}
-use mathlib.Core.Bool.{true, false, _&&_, Bool-set}
+use mathlib.Core.Bool.{true, _&&_, Bool-set}
 use lib.Dec.{ltb}
 use lib.ListN.{getD}
 use Rattle.std.proofs.shelf.Tests.{both-ways, lt-ltb, le-ltb, and-left}
 use Rattle.sets.specs.Sets.{member}
-use Rattle.theory.specs.Tasks.{Leads}
-use Rattle.task.specs.Filing.{filedTask}
 use Rattle.sets.proofs.Members.{member-zero}
 use Rattle.theory.proofs.Lawfuls.{lawful-of}
 use Rattle.theory.proofs.Ancestors.{leads-on}

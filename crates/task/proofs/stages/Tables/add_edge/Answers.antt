@@ -1,5 +1,5 @@
 -- With one more edge the tables are those of the task with that edge, which is lawful.
-use Prim.Native.Nat.{_<_, _≤_}
+use Prim.Native.Nat.{_<_}
 use native.Mathlib.Omega.{arith}
 use mathlib.Core.Path.{_≡_}
 use lib.ListN.{length}

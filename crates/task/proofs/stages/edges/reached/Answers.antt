@@ -1,6 +1,4 @@
 -- Each turn writes what leads to the next piece.
-use native.Mathlib.Omega.{arith}
-use mathlib.Core.Path.{refl}
 use Rattle.task.proofs.Tables.{reached-more}
 use Rattle.task.proofs.stages.edges.reached.Needs as need
 
