@@ -9,12 +9,8 @@ use lib.Dec.{eqb, eqb·suc-suc}
 use lib.Bits.{bitAnd, and-step, and-self, and-le-r}
 use lib.Count.{trailingZeros, under}
 use Rattle.std.proofs.shelf.Tests.{eq-eqb, ne-eqb, eqb-true, eqb-false, cases-order, both-ways}
-use Rattle.sets.specs.Sets.{member}
+use Rattle.sets.specs.Sets.{member, Lowest}
 use Rattle.sets.proofs.Members.{member-first, member-next, some-member}
-
--- t is the lowest member of s
-abbrev pub Lowest : ℕ → ℕ → Type 0
-Lowest s t = (member s t ≡ true) × ((k : ℕ) → k < t → member s k ≡ false)
 
 lowest-odd : (s : ℕ) → s % 2 ≡ 1 → Lowest s 0
 lowest-odd s e = (member-first s ∙ eq-eqb (s % 2) 1 e, λ k none. absurd (omega arith))

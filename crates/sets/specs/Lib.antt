@@ -1,2 +1,3 @@
--- Definitions: sets as numbers.
+-- Definitions: sets as numbers, and sets by level.
 pub mod Sets
+pub mod Levels

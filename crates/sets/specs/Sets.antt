@@ -1,9 +1,11 @@
 -- Sets of pieces as numbers: bit k of a set, worth 2 to the power k, stands for piece k. Assumes nothing.
-use Prim.Native.Nat.{ℕ, zero, suc, _+_, _/_, _%_, _^_}
+use Prim.Native.Nat.{ℕ, zero, suc, _+_, _/_, _%_, _^_, _<_}
 use mathlib.Core.Path.{_≡_}
-use mathlib.Core.Bool.{Bool, cond, _&&_}
+use mathlib.Core.Bool.{Bool, true, false, cond, not, _&&_}
 use lib.Dec.{eqb, ltb}
 use lib.Bits.{bitAnd}
+use Rattle.std.specs.declared.option.Option.{Option}
+use Rattle.std.specs.declared.option.Option.the-variants.{None, Some}
 
 -- piece k is in the set
 abbrev pub member : ℕ → ℕ → Bool
@@ -37,3 +39,18 @@ within a b = eqb (bitAnd a b) a
 -- no piece of the one is in the other
 abbrev pub apart : ℕ → ℕ → Bool
 apart a b = eqb (bitAnd a b) 0
+
+-- ---- the pieces one after the other
+
+-- piece k is the lowest of the set
+abbrev pub Lowest : ℕ → ℕ → Type 0
+Lowest s k = (member s k ≡ true) × ((j : ℕ) → j < k → member s j ≡ false)
+
+-- r is the set without piece k
+abbrev pub Without : ℕ → ℕ → ℕ → Type 0
+Without s k r = (j : ℕ) → member r j ≡ (member s j && not (eqb k j))
+
+-- the lowest piece is taken out of the set, or it has none
+abbrev pub Takes : ℕ → Option ℕ → ℕ → Type 0
+Takes s None r = (s ≡ 0) × (r ≡ s)
+Takes s (Some k) r = (k < 64) × Lowest s k × Without s k r

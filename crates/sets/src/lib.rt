@@ -6,8 +6,15 @@ ghost use mathlib.Core.Bool.{not, _&&_, _||_};
 ghost use lib.Dec.{eqb, ltb};
 ghost use Rattle.sets.specs.Sets.{member, sizeOf, SetOf};
 
+mod iterate;
+mod levels;
 #[cfg(test)]
 mod tests;
+
+pub use iterate::Pieces;
+pub use iterate::PiecesIterator;
+pub use iterate::pieces_of;
+pub use levels::Levelled;
 
 // Whether piece k is in the set.
 pub fn has(set: u64, k: usize) -> bool

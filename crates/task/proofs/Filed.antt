@@ -1,15 +1,19 @@
--- For whoever is handed a filed task: it is lawful, and how its edges are counted. Assumes nothing.
-use Prim.Native.Nat.{ℕ, _+_, _*_, _≤_}
+-- For whoever is handed a filed task: it is lawful, how its edges are counted, and its relations turned round. Assumes nothing.
+use Prim.Native.Nat.{ℕ, _+_, _*_, _≤_, _<_}
 use native.Mathlib.Omega.{arith}
-use mathlib.Core.Path.{_≡_, sym, ap, _∙_}
-use mathlib.Core.Logic.{⊎-elim}
-use mathlib.Core.Bool.{cond}
+use native.Mathlib.Bridge.{le-prop}
+use mathlib.Core.Path.{_≡_, refl, sym, ap, _∙_}
+use mathlib.Core.Logic.{⊎-elim, ∥∥₁-elim}
+use mathlib.Core.HLevel.{×-prop}
+use mathlib.Core.Bool.{Bool, true, false, cond, _&&_, and-true, and-false}
+use lib.Dec.{ltb}
 use lib.ListN.{getD}
-use Rattle.std.proofs.shelf.Tests.{cases-bool, cond-both}
+use Rattle.std.proofs.shelf.Tests.{cases-bool, cond-both, lt-ltb}
 use Rattle.sets.specs.Sets.{sum, count, sizeOf}
 use Rattle.sets.proofs.Sums.{sum-more, sum-cut, sum-small}
-use Rattle.theory.specs.Tasks.{Task, Lawful}
+use Rattle.theory.specs.Tasks.{Task, Leads, Lawful}
 use Rattle.theory.proofs.Lawfuls.{lawful-of}
+use Rattle.theory.proofs.Ancestors.{leads-on}
 use Rattle.task.specs.Filing.{filedTask}
 use Rattle.task.specs.declared.stages.Filed.{Filed}
 
@@ -42,3 +46,22 @@ module _ (f : Filed) where
   -- there are at most 64 to each
   pub edges-few : (i : ℕ) → edgesBelow f i ≤ i * 64
   edges-few i = sum-small i 64 (λ b. count (t .pieces) (λ a. t .edge a b)) (λ b _. omega (arith, few-here b, f .tables .few))
+
+-- ---- relations turned round
+
+-- both ends of a way along edges are pieces
+pub ancestor-ends : {t : Task} → Lawful t → (a b : ℕ) → t .ancestor a b ≡ true → (a < t .pieces) × (b < t .pieces)
+ancestor-ends {t} law a b h = ∥∥₁-elim (law .exact a b .0 h) (×-prop le-prop le-prop) (λ l. (from l, leads-on law l))
+  where
+    from : {x y : ℕ} → Leads t x y → x < t .pieces
+    from (Leads.one e) = law .ends _ _ e .0
+    from (Leads.more l e) = from l
+
+-- a test that implies two others, with the one and with the other
+either-end : (p q r : Bool) → (r ≡ true → p ≡ true) → (r ≡ true → q ≡ true) → (p && r) ≡ (q && r)
+either-end p q true h g = and-true p ∙ h refl ∙ sym (g refl) ∙ sym (and-true q)
+either-end p q false h g = and-false p ∙ sym (and-false q)
+
+-- of a relation between pieces it is the same which end is asked to be a piece
+pub other-end : (n : ℕ) (R : ℕ → ℕ → Bool) → ((a b : ℕ) → R a b ≡ true → (a < n) × (b < n)) → (k x : ℕ) → (ltb x n && R k x) ≡ (ltb k n && R k x)
+other-end n R ends k x = either-end (ltb x n) (ltb k n) (R k x) (λ e. lt-ltb x n (ends k x e .1)) (λ e. lt-ltb k n (ends k x e .0))

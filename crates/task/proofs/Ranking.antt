@@ -27,8 +27,8 @@ module _ (count : ℕ) (worst after : List ℕ) (few : count ≤ 64) (least : (k
   closed = taskFrom count worst (replicate 64 0) (replicate 64 0) after
 
   no-leads : {a b : ℕ} → Leads closed a b → ⊥
-  no-leads {a} {b} (Leads.one e) = both-ways (closed .edge a b) (none-in-zeros b a) e
-  no-leads {a} {b} (Leads.more {b = c} l e) = both-ways (closed .edge c b) (none-in-zeros b c) e
+  no-leads {a} {b} (Leads.one e) = both-ways (closed .edge a b) (none-in-zeros 64 b a) e
+  no-leads {a} {b} (Leads.more {b = c} l e) = both-ways (closed .edge c b) (none-in-zeros 64 b c) e
 
   equal : (a b : ℕ) → a < count → b < count → closed .notAfter a b ≡ true
   equal a b h k = all-equal a b ∙ and-from (ltb a count) (ltb b count) (lt-ltb a count h) (lt-ltb b count k)
@@ -41,9 +41,9 @@ module _ (count : ℕ) (worst after : List ℕ) (few : count ≤ 64) (least : (k
     few = few;
     at-least = least;
     at-most = most;
-    ends = λ a b e. absurd (both-ways (closed .edge a b) (none-in-zeros b a) e);
-    exact = λ a b. (λ e. absurd (both-ways (closed .ancestor a b) (none-in-zeros b a) e), λ h. ∥∥₁-elim h (Bool-set (closed .ancestor a b) true) (λ w. absurd (no-leads w)));
-    acyclic = λ a. none-in-zeros a a;
+    ends = λ a b e. absurd (both-ways (closed .edge a b) (none-in-zeros 64 b a) e);
+    exact = λ a b. (λ e. absurd (both-ways (closed .ancestor a b) (none-in-zeros 64 b a) e), λ h. ∥∥₁-elim h (Bool-set (closed .ancestor a b) true) (λ w. absurd (no-leads w)));
+    acyclic = λ a. none-in-zeros 64 a a;
     total = λ a b h k. Or·inl (equal a b h k);
     transitive = λ a b c h k. equal a c (on a b h .0) (on b c k .1);
   }

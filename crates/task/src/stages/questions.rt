@@ -1,14 +1,29 @@
 // What a filed task tells of its pieces, for any number that is handed in.
-ghost use Prim.Native.Nat.{ℕ};
+ghost use Prim.Native.Nat.{ℕ, _≤_};
 ghost use mathlib.Core.Path.{_≡_};
 ghost use mathlib.Core.Bool.{cond, true};
 ghost use mathlib.Core.Logic.{_↔_};
 ghost use lib.Dec.{ltb};
-ghost use Rattle.sets.specs.Sets.{member};
+ghost use lib.ListN.{getD};
+ghost use Rattle.sets.specs.Sets.{member, SetOf};
 ghost use Rattle.theory.specs.Tasks.{Leads};
 ghost use Rattle.task.specs.Filing.{Related, edgesOf, filedTask};
 use crate::stages::Filed;
+use sets::has;
 use sets::size;
+use sets::with;
+
+// The pieces below n whose sets have piece k.
+fn reversed(sets: &[u64; 64], n: usize, k: usize) -> u64
+    requires { ⌜ n ≤ 64 ⌝ }
+    ensures { λ r. ⌜ SetOf n (λ x. member (getD (now (sets .entry)) x 0) k) r ⌝ }
+{
+    let mut set = 0;
+    for x in 0..n {
+        set = with(set, x, has(sets[x], k));
+    }
+    set
+}
 
 impl Filed {
     // How many pieces there are: they are numbered from 0.
@@ -61,6 +76,20 @@ impl Filed {
         } else {
             0
         }
+    }
+
+    // The pieces to which an edge leads from piece k.
+    pub fn successors(&self, k: usize) -> u64
+        ensures { λ r. ⌜ Related (filedTask (now (self .entry))) (λ x y. filedTask (now (self .entry)) .edge y x) k r ⌝ }
+    {
+        reversed(&self.tables.predecessors, self.tables.pieces, k)
+    }
+
+    // The pieces to which one or more edges lead from piece k.
+    pub fn descendants(&self, k: usize) -> u64
+        ensures { λ r. ⌜ Related (filedTask (now (self .entry))) (λ x y. filedTask (now (self .entry)) .ancestor y x) k r ⌝ }
+    {
+        reversed(&self.tables.ancestors, self.tables.pieces, k)
     }
 
     // The pieces whose priority is not after that of piece k.

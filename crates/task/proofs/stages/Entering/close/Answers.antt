@@ -18,6 +18,6 @@ returns c =
     let r = c .all-equal-not-after in (
       sym (length-take-le (e .count) (e .worst) (omega arith)),
       λ k l. sym (getD-take (e .count) (e .worst) k 0 l),
-      λ a b. none-in-zeros b a,
+      λ a b. none-in-zeros 64 b a,
       all-equal (e .count) (e .worst) (r .result) (e .few) (e .least) (e .most) (r .ensures .sets) (r .ensures .rest),
     )

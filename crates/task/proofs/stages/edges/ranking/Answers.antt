@@ -11,7 +11,7 @@ use Rattle.task.proofs.stages.edges.ranking.Needs as need
 pub loop-k-holds : need.loop-k-holds
 loop-k-holds g c =
     let ps = c .args .priorities .now in
-    (refl, λ p. columns-none (length ps) (λ x y. g .P·Priority .notAfter (getD ps x p) (getD ps y p)) (replicate 64 0), λ y x h. none-in-zeros y x)
+    (refl, λ p. columns-none (length ps) (λ x y. g .P·Priority .notAfter (getD ps x p) (getD ps y p)) (replicate 64 0), λ y x h. none-in-zeros 64 y x)
 
 pub loop-k-again : need.loop-k-again
 loop-k-again g c =

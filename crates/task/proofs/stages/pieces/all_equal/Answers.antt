@@ -8,7 +8,7 @@ use Rattle.task.proofs.Tables.{columns-none, columns-more, empty-more, all-bel
 use Rattle.task.proofs.stages.pieces.all_equal.Needs as need
 
 pub loop-k-holds : need.loop-k-holds
-loop-k-holds c = (refl, columns-none (c .args .n) (λ _ _. true) (replicate 64 0), λ y x h. none-in-zeros y x)
+loop-k-holds c = (refl, columns-none (c .args .n) (λ _ _. true) (replicate 64 0), λ y x h. none-in-zeros 64 y x)
 
 pub loop-k-again : need.loop-k-again
 loop-k-again c =
