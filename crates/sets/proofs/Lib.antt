@@ -5,3 +5,6 @@ pub mod Lowest
 pub mod Sums
 pub mod Counts
 pub mod Tables
+pub mod Iterating
+pub mod Bests
+pub mod Levelling

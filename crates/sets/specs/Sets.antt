@@ -1,7 +1,8 @@
 -- Sets of pieces as numbers: bit k of a set, worth 2 to the power k, stands for piece k. Assumes nothing.
-use Prim.Native.Nat.{ℕ, zero, suc, _+_, _/_, _%_, _^_, _<_}
+use Prim.Native.Nat.{ℕ, zero, suc, _+_, _/_, _%_, _^_, _<_, _≤_}
 use mathlib.Core.Path.{_≡_}
 use mathlib.Core.Bool.{Bool, true, false, cond, not, _&&_}
+use mathlib.Core.Logic.{_⊎_}
 use lib.Dec.{eqb, ltb}
 use lib.Bits.{bitAnd}
 use Rattle.std.specs.declared.option.Option.{Option}
@@ -27,6 +28,11 @@ sumOver set f = sum 64 (λ k. cond (member set k) (f k) 0)
 -- how many pieces the set has; shut likewise
 unfoldable pub sizeOf : ℕ → ℕ
 sizeOf set = count 64 (member set)
+
+-- n is the largest value of f over the pieces that pass the test, and 0 where none does: none is larger, and one is as large
+pub record LargestWhere (p : ℕ → Bool) (f : ℕ → ℕ) (n : ℕ) : Type 0 where
+  pub bounds : (k : ℕ) → p k ≡ true → f k ≤ n
+  pub reached : (n ≡ 0) ⊎ ((k : ℕ) × (p k ≡ true) × (f k ≡ n))
 
 -- r is the set of the pieces below n that pass the test
 abbrev pub SetOf : ℕ → (ℕ → Bool) → ℕ → Type 0

@@ -1,4 +1,4 @@
--- For whoever is handed a filed task: it is lawful, how its edges are counted, and its relations turned round. Assumes nothing.
+-- For whoever is handed a filed task: it is lawful, how its edges are counted, its relations turned round, and their sizes. Assumes nothing.
 use Prim.Native.Nat.{ℕ, _+_, _*_, _≤_, _<_}
 use native.Mathlib.Omega.{arith}
 use native.Mathlib.Bridge.{le-prop}
@@ -9,12 +9,13 @@ use mathlib.Core.Bool.{Bool, true, false, cond, _&&_, and-true, and-false}
 use lib.Dec.{ltb}
 use lib.ListN.{getD}
 use Rattle.std.proofs.shelf.Tests.{cases-bool, cond-both, lt-ltb}
-use Rattle.sets.specs.Sets.{sum, count, sizeOf}
+use Rattle.sets.specs.Sets.{member, sum, count, sizeOf}
 use Rattle.sets.proofs.Sums.{sum-more, sum-cut, sum-small}
+use Rattle.sets.proofs.Counts.{count-same}
 use Rattle.theory.specs.Tasks.{Task, Leads, Lawful}
 use Rattle.theory.proofs.Lawfuls.{lawful-of}
 use Rattle.theory.proofs.Ancestors.{leads-on}
-use Rattle.task.specs.Filing.{filedTask}
+use Rattle.task.specs.Filing.{filedTask, Related}
 use Rattle.task.specs.declared.stages.Filed.{Filed}
 
 pub filed-lawful : (f : Filed) → Lawful (filedTask f)
@@ -65,3 +66,11 @@ either-end p q false h g = and-false p ∙ sym (and-false q)
 -- of a relation between pieces it is the same which end is asked to be a piece
 pub other-end : (n : ℕ) (R : ℕ → ℕ → Bool) → ((a b : ℕ) → R a b ≡ true → (a < n) × (b < n)) → (k x : ℕ) → (ltb x n && R k x) ≡ (ltb k n && R k x)
 other-end n R ends k x = either-end (ltb x n) (ltb k n) (R k x) (λ e. lt-ltb x n (ends k x e .1)) (λ e. lt-ltb k n (ends k x e .0))
+
+-- ---- sizes
+
+-- how many stand in the relation to a piece
+pub size-related : (t : Task) (R : ℕ → ℕ → Bool) (k r : ℕ) → k < t .pieces → Related t R k r → sizeOf r ≡ count 64 (λ a. R a k)
+unfolding sizeOf
+size-related t R k r on-task related =
+    count-same 64 (member r) (λ a. R a k) (λ a _. related a ∙ ap (λ b. b && R a k) (lt-ltb k (t .pieces) on-task))

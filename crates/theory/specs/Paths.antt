@@ -86,3 +86,8 @@ module _ (t : Task) where
   -- the greatest length of a complete path
   abbrev pub Chain : ℕ → Type 0
   Chain = LargestOf lengthOf
+
+  -- n is the remaining chain of v: the greatest length of a path that starts there
+  pub record Remaining (v n : ℕ) : Type 0 where
+    pub bounds : (path : List ℕ) → Linked (v ∷ path) → lengthOf (v ∷ path) ≤ n
+    pub reached : ∥ ((path : List ℕ) × Linked (v ∷ path) × (lengthOf (v ∷ path) ≡ n)) ∥₁

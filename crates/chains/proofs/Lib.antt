@@ -1,0 +1,2 @@
+-- Lemmas on chains, by topic.
+pub mod Depths

@@ -1,0 +1,2 @@
+-- Definitions that the contracts on chains cite.
+pub mod Chains
