@@ -8,3 +8,7 @@ pub mod Paths
 pub mod Listed
 pub mod Completing
 pub mod Largest
+pub mod Orders
+pub mod Walking
+pub mod Splitting
+pub mod Eliminating
