@@ -12,3 +12,8 @@ pub mod Orders
 pub mod Walking
 pub mod Splitting
 pub mod Eliminating
+pub mod AsPaths
+pub mod Concluding
+pub mod Sizes
+pub mod Between
+pub mod Sustained
