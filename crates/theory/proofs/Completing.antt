@@ -1,7 +1,6 @@
 -- Every path is part of a complete one, whose numerator is no smaller. Assumes nothing.
 use Prim.Native.Nat.{ℕ, zero, suc, _≤_, _<_}
 use native.Mathlib.Omega.{arith}
-use mathlib.Core.Path.{_≡_}
 use mathlib.Core.List.{List, [], _∷_, _++_}
 use mathlib.Core.Logic.{⊎-elim}
 use Rattle.theory.specs.Tasks.{Task, Lawful}
@@ -11,7 +10,7 @@ use Rattle.theory.proofs.Paths.{numerator-append, numerator-before}
 use Rattle.theory.proofs.Listed.{Trail, next-or, trail-from}
 
 -- along the edges to a sink
-abbrev pub Onward : Task → List ℕ → Type 0
+abbrev Onward : Task → List ℕ → Type 0
 Onward t = Trail (t .pieces) (t .edge)
 
 module _ (t : Task) where
@@ -27,7 +26,7 @@ module _ (t : Task) where
   onward-from (a ∷ (b ∷ rest)) l e = (l .0, onward-from (b ∷ rest) (l .1) e)
 
   -- a complete path whose numerator is no smaller than that of the list
-  abbrev pub Within : List ℕ → Type 0
+  abbrev Within : List ℕ → Type 0
   Within list = (path : List ℕ) × Complete t path × ((cores : ℕ) → numeratorOf t cores list ≤ numeratorOf t cores path)
 
 module _ {t : Task} (law : Lawful t) where

@@ -45,5 +45,7 @@ module _ {t : Task} (law : Lawful t) (E : ℕ → Type 0) (all : (x : ℕ) → x
       attained (inr (inr r)) =
           elim (best .reached (r .0) (r .1) (r .2) (r .3)) [
             | inl z ↦ absurd (omega (arith, z, r .4))
-            | inr k ↦ Or·inr (complete-too (r .0 ∷ (k .0 ++ r .1 ∷ [])) (walk-linked law E (r .0) (k .0) (r .1) (k .1)) (numerator-walk t cores (r .0) (k .0) (r .1) ∙ k .2 ∙ r .5))
+            | inr k ↦
+                Or·inr (complete-too (r .0 ∷ (k .0 ++ r .1 ∷ [])) (walk-linked law E (r .0) (k .0) (r .1) (k .1))
+                (numerator-walk t cores (r .0) (k .0) (r .1) ∙ k .2 ∙ r .5))
           ]

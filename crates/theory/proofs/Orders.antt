@@ -31,7 +31,8 @@ pub meets-so : (t : Task) (v x : ℕ) → Meets t v x → interferes t v x ≡ t
 meets-so t v x m =
     and-from (parallel t x v) (t .notAfter x v)
     (and-from (not (eqb x v)) (not (t .ancestor x v) && not (t .ancestor v x)) (not-from-false (eqb x v) (ne-eqb x v (m .apart)))
-    (and-from (not (t .ancestor x v)) (not (t .ancestor v x)) (not-from-false (t .ancestor x v) (m .not-before)) (not-from-false (t .ancestor v x) (m .not-behind))))
+    (and-from (not (t .ancestor x v)) (not (t .ancestor v x)) (not-from-false (t .ancestor x v) (m .not-before))
+    (not-from-false (t .ancestor v x) (m .not-behind))))
     (m .ahead)
 
 -- a piece that is after another has the other not after it

@@ -9,7 +9,7 @@ use mathlib.Core.Bool.{Bool, true}
 use Rattle.std.proofs.shelf.Bits.{mul-le}
 use Rattle.sets.proofs.Sums.{sum-small}
 use Rattle.theory.specs.Tasks.{Task, Lawful}
-use Rattle.theory.specs.Paths.{Linked, lengthOf, interferesWith, volumeOf, volume, numeratorOf, Numerator, Chain}
+use Rattle.theory.specs.Paths.{Linked, lengthOf, volumeOf, volume, numeratorOf, Numerator, Chain}
 use Rattle.theory.specs.Inner.{Via, weight, Best}
 use Rattle.theory.proofs.Volumes.{volume-mono, within-volume}
 use Rattle.theory.proofs.AsPaths.{numerator-walk, walk-linked}
@@ -34,7 +34,8 @@ module _ {t : Task} (law : Lawful t) where
   pub weight-small : (cores : ℕ) → cores ≤ 16 → (E : ℕ → Type 0) (u : ℕ) (l : List ℕ) (w : ℕ) → Via t E u l w → weight t cores u l w ≤ 71302080
   weight-small cores c E u l w p = omega (arith, numerator-walk t cores u l w, path-small cores (u ∷ (l ++ w ∷ [])) c (walk-linked law E u l w p))
 
-  pub entry-small : (cores : ℕ) → cores ≤ 16 → (E : ℕ → Type 0) (M : ℕ → ℕ → ℕ) → Best t cores E M → (u w : ℕ) → u < t .pieces → w < t .pieces → M u w ≤ 71302080
+  pub entry-small : (cores : ℕ) → cores ≤ 16 → (E : ℕ → Type 0) (M : ℕ → ℕ → ℕ) → Best t cores E M → (u w : ℕ) → u < t .pieces → w < t .pieces
+      → M u w ≤ 71302080
   entry-small cores c E M best u w hu hw =
       elim (best .reached u w hu hw) [ inl z ↦ omega (arith, z) | inr r ↦ omega (arith, r .2, weight-small cores c E u (r .0) w (r .1)) ]
 

@@ -13,7 +13,7 @@ use Rattle.theory.specs.Tasks.{Task, Lawful}
 use Rattle.theory.specs.Paths.{Linked, lengthOf, volumeOf, volume, parallel, interferes, interferesWith}
 use Rattle.theory.proofs.Ancestors.{ancestor-one, ancestor-more}
 
--- of a test, and another that passes where it does not, at places where a third passes
+-- two tests that never both pass, and a third that passes where either does
 apart-cond : (p q r : Bool) (x : ℕ) → (p ≡ true → r ≡ true) → (q ≡ true → r ≡ true) → (p ≡ true → q ≡ true → ⊥) → cond p x 0 + cond q x 0 ≤ cond r x 0
 apart-cond true true r x h k apart = absurd (apart refl refl)
 apart-cond true false r x h k apart = rw (h refl) (omega arith)
@@ -30,7 +30,7 @@ module _ (t : Task) where
   pub volume-mono : (p q : ℕ → Bool) → ((k : ℕ) → k < t .pieces → p k ≡ true → q k ≡ true) → volumeOf t p ≤ volumeOf t q
   volume-mono p q wider = sum-where (t .pieces) p q (t .worst) (t .worst) wider (λ k l. omega arith)
 
-  -- two tests that never both pass, within a third
+  -- so the volumes of the two are within that of the third
   volume-apart : (p q r : ℕ → Bool) → ((k : ℕ) → p k ≡ true → r k ≡ true) → ((k : ℕ) → q k ≡ true → r k ≡ true) → ((k : ℕ) → p k ≡ true → q k ≡ true → ⊥)
       → volumeOf t p + volumeOf t q ≤ volumeOf t r
   volume-apart p q r h k apart =
@@ -59,7 +59,11 @@ module _ {t : Task} (law : Lawful t) where
   head-adds : (a : ℕ) (rest : List ℕ) → a < t .pieces → ((k : ℕ) → on rest k ≡ true → t .ancestor a k ≡ true)
       → t .worst a + volumeOf t (on rest) ≤ volumeOf t (on (a ∷ rest))
   head-adds a rest l leads =
-      omega (arith, sum-at (t .pieces) (t .worst) a l, volume-apart t (eqb a) (on rest) (on (a ∷ rest)) (λ k. or-left (eqb a k) (on rest k)) (λ k. or-right (eqb a k) (on rest k)) apart)
+      omega (
+        arith,
+        sum-at (t .pieces) (t .worst) a l,
+        volume-apart t (eqb a) (on rest) (on (a ∷ rest)) (λ k. or-left (eqb a k) (on rest k)) (λ k. or-right (eqb a k) (on rest k)) apart,
+      )
     where
       apart : (k : ℕ) → eqb a k ≡ true → on rest k ≡ true → ⊥
       apart k same e = both-ways _ (law .acyclic a) (subst (λ x. t .ancestor a x ≡ true) (sym (eqb-true a k same)) (leads k e))
