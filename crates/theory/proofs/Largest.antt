@@ -5,16 +5,16 @@ use native.Mathlib.Omega.{arith}
 use mathlib.Core.Path.{_≡_, refl, sym, subst}
 use mathlib.Core.List.{List, [], _∷_}
 use mathlib.Core.Logic.{_⊎_, inl, inr, ⊎-elim, Or·elim, Or·inl, Or·inr}
-use mathlib.Core.Bool.{true, not}
-use Rattle.std.proofs.shelf.Tests.{both-ways, cases-lt, not-true, not-from-false}
+use mathlib.Core.Bool.{not}
+use Rattle.std.proofs.shelf.Tests.{cases-lt, not-from-false}
 use Rattle.theory.specs.Tasks.{Task, Lawful}
-use Rattle.theory.specs.Paths.{Source, Complete, LargestOf, Numerator, Chain, lengthOf, numeratorOf}
+use Rattle.theory.specs.Paths.{Complete, LargestOf, Numerator, Chain, lengthOf, numeratorOf}
 use Rattle.theory.specs.Listing.{In, any, trails, largest, walk, numerator, chain}
 use Rattle.theory.specs.Laws.{Bound-is-the-largest}
 use Rattle.theory.proofs.Ancestors.{below, fewer-below, below-few}
-use Rattle.theory.proofs.Tests.{is-false, any-none, none-any}
+use Rattle.theory.proofs.Tests.{none-any}
 use Rattle.theory.proofs.Paths.{linked-start}
-use Rattle.theory.proofs.Listed.{in-each, each-in, trails-sound, trails-full}
+use Rattle.theory.proofs.Listed.{in-each, each-in, last-of, trails-sound, trails-full}
 use Rattle.theory.proofs.Completing.{onward-parts, onward-from, completed}
 
 -- a largest value is at most another, so there is one
@@ -45,11 +45,8 @@ module _ {t : Task} (law : Lawful t) where
       let w = in-each path (t .pieces) (λ v. not (any (t .pieces) (λ a. t .edge a v))) (trails (t .pieces) (t .edge) (t .pieces)) h in
       let on = trails-sound (t .pieces) (t .edge) (λ a b e. law .ends a b e .1) path (t .pieces) (w .0) (w .1) (w .3) in
       let parts = onward-parts t (w .0 ∷ on .0) (on .2) in
-      subst (Complete t) (sym (on .1)) (record { linked = parts .0; first = source (w .0) (w .2); last = parts .1 })
-    where
-      source : (v : ℕ) → not (any (t .pieces) (λ a. t .edge a v)) ≡ true → Source t v
-      source v e a =
-          is-false (t .edge a v) (λ h. both-ways _ (any-none (t .pieces) (λ a. t .edge a v) (not-true _ e) a (law .ends a v h .0)) h)
+      let source = last-of (t .pieces) (λ b a. t .edge a b) (λ b a e. law .ends a b e .0) (w .0) (w .2) in
+      subst (Complete t) (sym (on .1)) (record { linked = parts .0; first = source; last = parts .1 })
 
   -- and what is complete it lists
   walk-full : (path : List ℕ) → Complete t path → In path (walk t)

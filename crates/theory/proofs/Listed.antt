@@ -6,11 +6,12 @@ use mathlib.Core.List.{List, [], _∷_, _++_}
 use mathlib.Core.Logic.{_⊎_, inl, inr, ⊎-elim}
 use mathlib.Core.Bool.{Bool, true, false, not}
 use Rattle.std.proofs.shelf.Tests.{both-ways, not-true, not-from-false}
-use Rattle.theory.specs.Listing.{In, any, pick, each, alone, before, trails}
 use Rattle.sets.proofs.Sums.{at-or-below, find}
+use Rattle.theory.specs.Listing.{In, any, pick, each, alone, before, trails}
 use Rattle.theory.proofs.Tests.{is-false, any-none, none-any}
 
 module _ (path : List ℕ) where
+  -- what stands in one list or another stands in the two together, and the other way round
   in-left : (xs ys : List (List ℕ)) → In path xs → In path (xs ++ ys)
   in-left [] ys h = absurd h
   in-left (x ∷ xs) ys (inl e) = inl e
@@ -25,6 +26,7 @@ module _ (path : List ℕ) where
   in-either (x ∷ xs) ys (inl e) = inl (inl e)
   in-either (x ∷ xs) ys (inr h) = ⊎-elim (λ l. inl (inr l)) (λ r. inr r) (in-either xs ys h)
 
+  -- what stands in `pick` stands in what f lists where the test has passed, and the other way round
   in-pick : (b : Bool) (f : ℕ → List (List ℕ)) (k : ℕ) → In path (pick b f k) → (b ≡ true) × In path (f k)
   in-pick true f k h = (refl, h)
   in-pick false f k h = absurd h
@@ -33,7 +35,7 @@ module _ (path : List ℕ) where
   pick-in true f k e h = h
   pick-in false f k e h = absurd (both-ways false refl e)
 
-  -- what stands in `each` stands in what f lists at a number that passes
+  -- what stands in `each` stands in what f lists at a number that passes, and the other way round
   pub in-each : (n : ℕ) (p : ℕ → Bool) (f : ℕ → List (List ℕ)) → In path (each n p f) → (k : ℕ) × (k < n) × (p k ≡ true) × In path (f k)
   in-each zero p f h = absurd h
   in-each (suc n) p f h =
@@ -50,6 +52,7 @@ module _ (path : List ℕ) where
       (pick-in (p n) f n (subst (λ x. p x ≡ true) (sym same) e) (subst (λ x. In path (f x)) (sym same) h)))
       (at-or-below k n l)
 
+-- what stands in `before` is v in front of what stands in the list, and the other way round
 in-before : (path : List ℕ) (v : ℕ) (xs : List (List ℕ)) → In path (before v xs) → (rest : List ℕ) × (path ≡ v ∷ rest) × In rest xs
 in-before path v [] h = absurd h
 in-before path v (x ∷ xs) (inl e) = (x, e, inl refl)
@@ -68,7 +71,8 @@ module _ (n : ℕ) (next : ℕ → ℕ → Bool) where
   Trail (a ∷ (b ∷ rest)) = (next a b ≡ true) × Trail (b ∷ rest)
 
   module _ (inside : (a b : ℕ) → next a b ≡ true → b < n) where
-    last-of : (v : ℕ) → not (any n (next v)) ≡ true → (b : ℕ) → next v b ≡ false
+    -- where the test finds none next to v, none is
+    pub last-of : (v : ℕ) → not (any n (next v)) ≡ true → (b : ℕ) → next v b ≡ false
     last-of v e b = is-false (next v b) (λ h. both-ways _ (any-none n (next v) (not-true _ e) b (inside v b h)) h)
 
     -- what is listed from v is a trail that begins with v
