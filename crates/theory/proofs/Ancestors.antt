@@ -1,8 +1,12 @@
--- Ways along the edges, and ancestors by what leads where. Assumes nothing.
+-- Ways along the edges, ancestors by what leads where, and how many a piece has above and below it. Assumes nothing.
 use Prim.Native.Nat.{ℕ, _<_}
-use mathlib.Core.Path.{_≡_}
+use native.Mathlib.Omega.{arith}
+use mathlib.Core.Path.{_≡_, refl, sym, subst}
 use mathlib.Core.Logic.{∥∥₁-elim, ∥∥₁-map, ∥∥₁-prop}
 use mathlib.Core.Bool.{true}
+use Rattle.std.proofs.shelf.Tests.{both-ways}
+use Rattle.sets.specs.Sets.{count}
+use Rattle.sets.proofs.Counts.{count-all, count-strict}
 use Rattle.theory.specs.Tasks.{Task, Leads, Lawful}
 
 -- a way behind a way
@@ -30,3 +34,34 @@ module _ {t : Task} (law : Lawful t) where
   pub leads-on : {a b : ℕ} → Leads t a b → b < t .pieces
   leads-on (Leads.one e) = law .ends _ _ e .1
   leads-on (Leads.more l e) = law .ends _ _ e .1
+
+  -- no piece is its own ancestor
+  pub ancestor-apart : (a b : ℕ) → t .ancestor a b ≡ true → a ≡ b → ⊥
+  ancestor-apart a b h e = both-ways (t .ancestor a a) (law .acyclic a) (subst (λ y. t .ancestor a y ≡ true) (sym e) h)
+
+-- how many pieces lead to v, and to how many v leads: by these a walk along the edges ends
+pub above : Task → ℕ → ℕ
+above t v = count (t .pieces) (λ a. t .ancestor a v)
+
+pub below : Task → ℕ → ℕ
+below t v = count (t .pieces) (t .ancestor v)
+
+module _ {t : Task} (law : Lawful t) where
+  -- against an edge fewer pieces are above, and along it fewer below
+  pub fewer-above : (a b : ℕ) → t .edge a b ≡ true → above t a < above t b
+  unfolding above
+  fewer-above a b e =
+      count-strict (t .pieces) (λ k. t .ancestor k a) (λ k. t .ancestor k b) (λ k h. ancestor-more law k a b h e) a
+      (law .ends a b e .0) (law .acyclic a) (ancestor-one law a b e)
+
+  pub fewer-below : (a b : ℕ) → t .edge a b ≡ true → below t b < below t a
+  unfolding below
+  fewer-below a b e =
+      count-strict (t .pieces) (t .ancestor b) (t .ancestor a) (λ k h. ancestor-join law a b k (ancestor-one law a b e) h) b
+      (law .ends a b e .1) (law .acyclic b) (ancestor-one law a b e)
+
+  -- a piece is not below itself, so those are fewer than all
+  pub below-few : (v : ℕ) → v < t .pieces → below t v < t .pieces
+  unfolding below
+  below-few v l =
+      omega (arith, count-all (t .pieces), count-strict (t .pieces) (t .ancestor v) (λ k. true) (λ k h. refl) v l (law .acyclic v) refl)
