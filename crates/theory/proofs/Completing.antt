@@ -1,12 +1,12 @@
--- Every path is part of a complete one, whose numerator is no smaller. Assumes nothing.
+-- Every path is part of a complete one, which is no shorter and whose numerator is no smaller. Assumes nothing.
 use Prim.Native.Nat.{ℕ, zero, suc, _≤_, _<_}
 use native.Mathlib.Omega.{arith}
 use mathlib.Core.List.{List, [], _∷_, _++_}
 use mathlib.Core.Logic.{⊎-elim}
 use Rattle.theory.specs.Tasks.{Task, Lawful}
-use Rattle.theory.specs.Paths.{Linked, Sink, EndsAt, Complete, numeratorOf}
+use Rattle.theory.specs.Paths.{Linked, Sink, EndsAt, Complete, lengthOf, numeratorOf}
 use Rattle.theory.proofs.Ancestors.{above, below, fewer-above, fewer-below}
-use Rattle.theory.proofs.Paths.{numerator-append, numerator-before}
+use Rattle.theory.proofs.Paths.{length-append, numerator-append, numerator-before}
 use Rattle.theory.proofs.Listed.{Trail, next-or, trail-from}
 
 -- along the edges to a sink
@@ -25,9 +25,10 @@ module _ (t : Task) where
   onward-from (a ∷ []) l e = (l, e)
   onward-from (a ∷ (b ∷ rest)) l e = (l .0, onward-from (b ∷ rest) (l .1) e)
 
-  -- a complete path whose numerator is no smaller than that of the list
+  -- a complete path that is no shorter than the list, and whose numerator is no smaller
   abbrev Within : List ℕ → Type 0
-  Within list = (path : List ℕ) × Complete t path × ((cores : ℕ) → numeratorOf t cores list ≤ numeratorOf t cores path)
+  Within list =
+      (path : List ℕ) × Complete t path × (lengthOf t list ≤ lengthOf t path) × ((cores : ℕ) → numeratorOf t cores list ≤ numeratorOf t cores path)
 
 module _ {t : Task} (law : Lawful t) where
   -- a path goes on to a sink
@@ -41,10 +42,10 @@ module _ {t : Task} (law : Lawful t) where
   from-source (suc fuel) a rest few on =
       ⊎-elim (λ w.
       let whole = from-source fuel (w .0) (a ∷ rest) (omega (arith, fewer-above law (w .0) a (w .1))) (w .1, on) in
-      (whole .0, whole .1, λ cores. omega (arith, whole .2 cores, numerator-before t cores (w .0) (a ∷ rest))))
+      (whole .0, whole .1, omega (arith, whole .2), λ cores. omega (arith, whole .3 cores, numerator-before t cores (w .0) (a ∷ rest))))
       (λ none.
       let parts = onward-parts t (a ∷ rest) on in
-      (a ∷ rest, record { linked = parts .0; first = none; last = parts .1 }, λ cores. omega arith))
+      (a ∷ rest, record { linked = parts .0; first = none; last = parts .1 }, omega arith, λ cores. omega arith))
       (next-or (t .pieces) (λ b c. t .edge c b) (λ b c e. law .ends c b e .0) a)
 
   pub completed : (path : List ℕ) → Linked t path → Within t path
@@ -52,4 +53,5 @@ module _ {t : Task} (law : Lawful t) where
   completed (a ∷ rest) l =
       let on = to-sink a rest l in
       let whole = from-source (suc (above t a)) a (rest ++ on .0) (omega arith) (on .1) in
-      (whole .0, whole .1, λ cores. omega (arith, whole .2 cores, numerator-append t cores (a ∷ rest) (on .0)))
+      let longer = length-append t (a ∷ rest) (on .0) in
+      (whole .0, whole .1, omega (arith, whole .2), λ cores. omega (arith, whole .3 cores, numerator-append t cores (a ∷ rest) (on .0)))

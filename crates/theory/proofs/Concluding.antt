@@ -32,7 +32,7 @@ module _ {t : Task} (law : Lawful t) (E : ℕ → Type 0) (all : (x : ℕ) → x
   complete-too : (path : List ℕ) → Linked t path → numeratorOf t cores path ≡ n → (whole : List ℕ) × Complete t whole × (numeratorOf t cores whole ≡ n)
   complete-too path l e =
       let whole = completed law path l in
-      (whole .0, whole .1, omega (arith, linked-bound (whole .0) (whole .1 .linked), whole .2 cores))
+      (whole .0, whole .1, omega (arith, linked-bound (whole .0) (whole .1 .linked), whole .3 cores))
 
   pub concluded : Numerator t cores n
   concluded = record { bounds = λ path c. linked-bound path (c .linked); reached = attained (greatest .reached) }
