@@ -1,2 +1,3 @@
 -- Lemmas on chains, by topic.
 pub mod Depths
+pub mod Knowing

@@ -34,3 +34,35 @@ fn by_depth(task: &Filed) -> Levelled
     }
     levels
 }
+
+// Writes the remaining chains of the pieces of a level, where those of all deeper pieces are written.
+fn lengthen(task: &Filed, levels: &Levelled, level: usize, lengths: &mut [u32; 64])
+    requires sorted { ⌜ ByKey (depth (filedTask (now task))) (filedTask (now task) .pieces) (now levels) ⌝ }
+    requires deeper { ⌜ Known (filedTask (now task)) (deep (filedTask (now task)) (level + 1)) (now lengths) ⌝ }
+    ensures { λ _. ⌜ Known (filedTask (now (task .entry))) (deep (filedTask (now (task .entry))) level) (now (lengths .exit)) ⌝ }
+{
+    let set = levels.at(level);
+    for v in pieces_of(set) {
+        lengths[v] = task.worst(v) + longest_of(lengths, task.successors(v));
+    }
+}
+
+// The remaining chain of each piece: the greatest length of a path that starts there.
+pub fn remaining(task: &Filed) -> [u32; 64]
+    ensures { λ r. ⌜ Remainders (filedTask (now (task .entry))) r ⌝ }
+{
+    let levels = by_depth(task);
+    let mut lengths = [0; 64];
+    for level in (0..64).rev() {
+        lengthen(task, &levels, level, &mut lengths);
+    }
+    lengths
+}
+
+// The greatest length of a complete path, and 0 without pieces.
+pub fn chain(task: &Filed) -> u32
+    ensures { λ r. ⌜ Chain (filedTask (now (task .entry))) r ⌝ }
+{
+    let lengths = remaining(task);
+    longest_of(&lengths, first(task.pieces()))
+}
