@@ -1,0 +1,3 @@
+-- Definitions that the contract of the bound call cites.
+pub mod Bounds
+pub mod Laws

@@ -1,0 +1,2 @@
+-- Lemmas on the numerator, by topic.
+pub mod Adding
