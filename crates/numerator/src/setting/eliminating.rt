@@ -5,12 +5,11 @@ ghost use mathlib.Core.Bool.{true, _&&_};
 ghost use lib.Dec.{eqb};
 ghost use lib.ListN.{length};
 ghost use Rattle.sets.specs.Levels.{ByKey};
-ghost use Rattle.theory.specs.Inner.{alone as aloneAt, stepped, Best};
+ghost use Rattle.theory.specs.Inner.{alone as aloneAt, twice as twiceAt, stepped, Best};
 ghost use Rattle.task.specs.Filing.{filedTask};
 ghost use Rattle.numerator.specs.Cells.{roomOf, Wrote, entry, Ready};
 ghost use Rattle.numerator.specs.Settings.{taskIn, rank, Ahead, Behind};
 use crate::setting::Setting;
-use crate::setting::filling::place;
 use crate::totals::work;
 use sets::Levelled;
 use sets::PiecesIterator;
@@ -30,26 +29,38 @@ fn by_rank(task: &Filed) -> Levelled
 }
 
 impl Setting {
-    // The cell of the pair u, w once walks may go through v, where own is the numerator of v alone. What a walk from u to v and
-    // one from v to w both count is taken off: v itself with its interference set, and what meets both u and w but not v.
+    // What a walk from u to v and a walk from v to w both count, where own is the numerator of v alone: v itself with its
+    // interference set, and what meets both u and w but not v.
+    fn twice(&self, own: u64, u: usize, v: usize, w: usize) -> u64
+        requires own { ⌜ own ≡ aloneAt (taskIn (now self)) (now self .cores) v ⌝ }
+        requires u { ⌜ u < taskIn (now self) .pieces ⌝ }
+        requires v { ⌜ v < taskIn (now self) .pieces ⌝ }
+        requires w { ⌜ w < taskIn (now self) .pieces ⌝ }
+        ensures { λ r. ⌜ r ≡ twiceAt (taskIn (now (self .entry))) (now (self .entry) .cores) u v w ⌝ }
+    {
+        let outer = self.interference[u] & self.interference[w] & !self.interference[v];
+        own + work(&self.task, outer)
+    }
+
+    // The cell of the pair u, w once walks may go through v.
     fn joined(&self, scratch: &[u64], own: u64, u: usize, v: usize, w: usize) -> u64
         requires room { ⌜ roomOf (taskIn (now self) .pieces) ≤ length (now scratch) ⌝ }
         requires own { ⌜ own ≡ aloneAt (taskIn (now self)) (now self .cores) v ⌝ }
+        requires u { ⌜ u < taskIn (now self) .pieces ⌝ }
+        requires v { ⌜ v < taskIn (now self) .pieces ⌝ }
+        requires w { ⌜ w < taskIn (now self) .pieces ⌝ }
         requires to { ⌜ taskIn (now self) .ancestor u v ≡ true ⌝ }
         requires on { ⌜ taskIn (now self) .ancestor v w ≡ true ⌝ }
         requires ready { ⌜ Ready (taskIn (now self)) (now scratch) v ⌝ }
         ensures { λ r. ⌜ r ≡ stepped (taskIn (now (self .entry))) (now (self .entry) .cores) (entry (taskIn (now (self .entry))) (now (scratch .entry))) v u w ⌝ }
     {
-        let n = self.task.pieces();
-        let to = scratch[place(n, u, v)];
-        let on = scratch[place(n, v, w)];
-        let old = scratch[place(n, u, w)];
+        let to = scratch[self.place(u, v)];
+        let on = scratch[self.place(v, w)];
+        let old = scratch[self.place(u, w)];
         if to == 0 || on == 0 {
             return old;
         }
-        let outer = self.interference[u] & self.interference[w] & !self.interference[v];
-        let twice = own + work(&self.task, outer);
-        old.max((to + on).saturating_sub(twice))
+        old.max((to + on).saturating_sub(self.twice(own, u, v, w)))
     }
 
     // Writes the cells of u with all that v leads to, once walks may go through v.
@@ -57,17 +68,18 @@ impl Setting {
         requires room { ⌜ roomOf (taskIn (now self) .pieces) ≤ length (now scratch) ⌝ }
         requires own { ⌜ own ≡ aloneAt (taskIn (now self)) (now self .cores) v ⌝ }
         requires behind { ⌜ Behind (taskIn (now self)) v behind ⌝ }
+        requires u { ⌜ u < taskIn (now self) .pieces ⌝ }
+        requires v { ⌜ v < taskIn (now self) .pieces ⌝ }
         requires to { ⌜ taskIn (now self) .ancestor u v ≡ true ⌝ }
         requires ready { ⌜ Ready (taskIn (now self)) (now scratch) v ⌝ }
         ensures { λ _. ⌜ Wrote (taskIn (now (self .entry)) .pieces) (λ a b. eqb u a && taskIn (now (self .entry)) .ancestor v b) (stepped (taskIn (now (self .entry))) (now (self .entry) .cores) (entry (taskIn (now (self .entry))) (now (scratch .entry))) v) (now (scratch .entry)) (now (scratch .exit)) ⌝ }
     {
-        let n = self.task.pieces();
-        if scratch[place(n, u, v)] == 0 {
+        if scratch[self.place(u, v)] == 0 {
             return;
         }
         for w in pieces_of(behind) {
             let value = self.joined(scratch, own, u, v, w);
-            scratch[place(n, u, w)] = value;
+            scratch[self.place(u, w)] = value;
         }
     }
 

@@ -11,28 +11,26 @@ use crate::setting::Setting;
 use sets::PiecesIterator;
 use sets::pieces_of;
 
-// Where the cell of the pair u, w lies among n pieces.
-pub(crate) fn place(n: usize, u: usize, w: usize) -> usize
-    requires few { ⌜ n ≤ 64 ⌝ }
-    requires u { ⌜ u < n ⌝ }
-    requires w { ⌜ w < n ⌝ }
-    ensures value { λ r. ⌜ r ≡ placeOf n u w ⌝ }
-    ensures within { λ r. ⌜ r < roomOf n ⌝ }
-{
-    u * n + w
-}
-
 impl Setting {
+    // Where the cell of the pair u, w lies in the scratch.
+    pub(crate) fn place(&self, u: usize, w: usize) -> usize
+        requires u { ⌜ u < taskIn (now self) .pieces ⌝ }
+        requires w { ⌜ w < taskIn (now self) .pieces ⌝ }
+        ensures value { λ r. ⌜ r ≡ placeOf (taskIn (now (self .entry)) .pieces) u w ⌝ }
+        ensures within { λ r. ⌜ r < roomOf (taskIn (now (self .entry)) .pieces) ⌝ }
+    {
+        u * self.task.pieces() + w
+    }
+
     // Writes the cell of each ancestor of w with w.
     fn fill_column(&self, scratch: &mut [u64], w: usize)
         requires room { ⌜ roomOf (taskIn (now self) .pieces) ≤ length (now scratch) ⌝ }
         requires w { ⌜ w < taskIn (now self) .pieces ⌝ }
         ensures { λ _. ⌜ Wrote (taskIn (now (self .entry)) .pieces) (λ a b. eqb w b && taskIn (now (self .entry)) .ancestor a b) (straightAt (taskIn (now (self .entry))) (now (self .entry) .cores)) (now (scratch .entry)) (now (scratch .exit)) ⌝ }
     {
-        let n = self.task.pieces();
         let before = self.task.ancestors(w);
         for u in pieces_of(before) {
-            scratch[place(n, u, w)] = self.straight(u, w);
+            scratch[self.place(u, w)] = self.straight(u, w);
         }
     }
 

@@ -6,7 +6,6 @@ ghost use Rattle.theory.specs.Inner.{Greatest};
 ghost use Rattle.numerator.specs.Cells.{roomOf, entry};
 ghost use Rattle.numerator.specs.Settings.{taskIn};
 use crate::setting::Setting;
-use crate::setting::filling::place;
 use sets::PiecesIterator;
 use sets::pieces_of;
 
@@ -17,11 +16,10 @@ impl Setting {
         requires w { ⌜ w < taskIn (now self) .pieces ⌝ }
         ensures { λ r. ⌜ LargestWhere (λ u. taskIn (now (self .entry)) .ancestor u w) (λ u. entry (taskIn (now (self .entry))) (now (scratch .entry)) u w) r ⌝ }
     {
-        let n = self.task.pieces();
         let before = self.task.ancestors(w);
         let mut largest = 0;
         for u in pieces_of(before) {
-            largest = scratch[place(n, u, w)].max(largest);
+            largest = scratch[self.place(u, w)].max(largest);
         }
         largest
     }
