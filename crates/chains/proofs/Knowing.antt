@@ -22,6 +22,7 @@ use Rattle.theory.specs.Paths.{Remaining}
 use Rattle.theory.proofs.Remaining.{remaining-step, remaining-small}
 use Rattle.theory.proofs.Sizes.{volume-most}
 use Rattle.task.specs.Filing.{Related}
+use Rattle.task.proofs.Filed.{related-at}
 use Rattle.chains.specs.Chains.{depth, deep, Known, Remainders}
 use Rattle.chains.proofs.Depths.{depth-grows, depth-few}
 
@@ -70,7 +71,7 @@ module _ {t : Task} (law : Lawful t) where
   known-here p lengths v after n on-task k ready related most =
       remaining-step t (λ w. getD lengths w 0) v n on-task
       (largest-same (member after) (t .edge v) _ n
-      (λ w. sym (related w ∙ ap (λ b. b && t .edge v w) (lt-ltb v (t .pieces) on-task))) most)
+      (λ w. sym (related-at t (λ x y. t .edge y x) v after on-task related w)) most)
       (λ w e. k .exact w (law .ends v w e .1) (ready w e))
 
 -- as many or more: one level deeper, or exactly here

@@ -2,5 +2,7 @@
 pub mod Adding
 pub mod Weighing
 pub mod Placing
+pub mod Lines
 pub mod Stepping
+pub mod Rows
 pub mod Ranks

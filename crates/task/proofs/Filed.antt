@@ -1,4 +1,4 @@
--- For whoever is handed a filed task: it is lawful, how its edges are counted, its relations turned round, and their sizes. Assumes nothing.
+-- For whoever is handed a filed task: it is lawful, how its edges are counted, and its relations turned round and as sets. Assumes nothing.
 use Prim.Native.Nat.{ℕ, _+_, _*_, _≤_, _<_}
 use native.Mathlib.Omega.{arith}
 use native.Mathlib.Bridge.{le-prop}
@@ -67,10 +67,20 @@ either-end p q false h g = and-false p ∙ sym (and-false q)
 pub other-end : (n : ℕ) (R : ℕ → ℕ → Bool) → ((a b : ℕ) → R a b ≡ true → (a < n) × (b < n)) → (k x : ℕ) → (ltb x n && R k x) ≡ (ltb k n && R k x)
 other-end n R ends k x = either-end (ltb x n) (ltb k n) (R k x) (λ e. lt-ltb x n (ends k x e .1)) (λ e. lt-ltb k n (ends k x e .0))
 
--- ---- sizes
+-- ---- relations as sets
 
--- how many stand in the relation to a piece
+-- the set of what stands in a relation to a piece, asked of one
+pub related-at : (t : Task) (R : ℕ → ℕ → Bool) (k r : ℕ) → k < t .pieces → Related t R k r → (x : ℕ) → member r x ≡ R x k
+related-at t R k r on-task related x = related x ∙ ap (λ b. b && R x k) (lt-ltb k (t .pieces) on-task)
+
+-- what is in the set of a piece's ancestors is one, and a piece of the task
+pub ancestor-in : {t : Task} → Lawful t → (w set u : ℕ) → w < t .pieces → Related t (t .ancestor) w set → member set u ≡ true
+    → (t .ancestor u w ≡ true) × (u < t .pieces)
+ancestor-in {t} law w set u on-task related h =
+    let is = sym (related-at t (t .ancestor) w set on-task related u) ∙ h in
+    (is, ancestor-ends law u w is .0)
+
+-- and how many it has
 pub size-related : (t : Task) (R : ℕ → ℕ → Bool) (k r : ℕ) → k < t .pieces → Related t R k r → sizeOf r ≡ count 64 (λ a. R a k)
 unfolding sizeOf
-size-related t R k r on-task related =
-    count-same 64 (member r) (λ a. R a k) (λ a _. related a ∙ ap (λ b. b && R a k) (lt-ltb k (t .pieces) on-task))
+size-related t R k r on-task related = count-same 64 (member r) (λ a. R a k) (λ a _. related-at t R k r on-task related a)
