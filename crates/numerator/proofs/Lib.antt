@@ -6,3 +6,4 @@ pub mod Lines
 pub mod Stepping
 pub mod Rows
 pub mod Ranks
+pub mod Taking
