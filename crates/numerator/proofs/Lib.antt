@@ -7,3 +7,4 @@ pub mod Stepping
 pub mod Rows
 pub mod Ranks
 pub mod Taking
+pub mod Peaks

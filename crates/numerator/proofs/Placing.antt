@@ -9,13 +9,18 @@ use lib.Dec.{eqb}
 use lib.ListN.{length, getD, set}
 use lib.Seq.{getD-set-same, getD-set-other}
 use Rattle.std.proofs.shelf.Tests.{both-ways, cases-bool, cond-true, and-parts, and-from, or-right, eqb-true, eq-eqb}
-use Rattle.std.proofs.shelf.Bits.{div-mul-add, mod-mul-add, mul-add-lt}
+use Rattle.std.proofs.shelf.Bits.{div-mul-add, mod-mul-add, mul-add-lt, mul-le}
 use Rattle.numerator.specs.Cells.{placeOf, roomOf, cell, Wrote}
 
 -- every cell lies within the room for all
 pub place-within : (n u w : ℕ) → u < n → w < n → placeOf n u w < roomOf n
 unfolding placeOf roomOf
 place-within n u w hu hw = mul-add-lt u n w n hu hw
+
+-- the scratch that a call takes has room for all
+pub room-in : (n : ℕ) → roomOf n ≤ (n + 2) * (n + 2)
+unfolding roomOf
+room-in n = mul-le n n (n + 2) (n + 2) (omega arith) (omega arith)
 
 -- two pairs with one place are one pair
 pub place-once : (n a b u w : ℕ) → b < n → w < n → placeOf n a b ≡ placeOf n u w → (a ≡ u) × (b ≡ w)

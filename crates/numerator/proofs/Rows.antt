@@ -1,4 +1,5 @@
--- Taking a piece v: which cells are written, and that those which a step goes by are not. Assumes nothing.
+-- The table as it is written: first the edges, then for each piece v that is taken the rows of what leads to it. What a step goes
+-- by is not among the cells written. Assumes nothing.
 use Prim.Native.Nat.{ℕ, _+_, _≤_, _<_}
 use native.Mathlib.Omega.{arith}
 use mathlib.Core.Path.{_≡_, refl, sym, ap, ap₂, subst, _∙_}
@@ -11,8 +12,9 @@ use Rattle.std.proofs.shelf.Tests.{both-ways, cases-bool, and-parts, and-from, 
 use Rattle.sets.specs.Sets.{member, Without}
 use Rattle.sets.proofs.Iterating.{passed, Within, passed-more}
 use Rattle.theory.specs.Tasks.{Task, Lawful}
-use Rattle.theory.specs.Inner.{stepped}
-use Rattle.theory.proofs.Ancestors.{ancestor-join, ancestor-apart}
+use Rattle.theory.specs.Inner.{straight, stepped, Best}
+use Rattle.theory.proofs.Ancestors.{ancestor-one, ancestor-join, ancestor-apart}
+use Rattle.theory.proofs.Eliminating.{begun}
 use Rattle.task.proofs.Filed.{ancestor-ends}
 use Rattle.numerator.specs.Cells.{placeOf, cell, Wrote, entry, Ready}
 use Rattle.numerator.specs.Settings.{Behind}
@@ -136,3 +138,16 @@ all-stepped {t} law cores v old new wrote u w hu hw = ⊎-elim joins stays (case
     stays h =
         same-entry t old new u w (unwritten (t .pieces) _ (λ a b. t .ancestor a v && t .ancestor v b) old new u w wrote hu hw h)
         ∙ sym (stepped-stays t cores (entry t old) v u w (apart h))
+
+-- the edges written: no piece is taken yet, and a walk is a single edge
+pub edges-best : {t : Task} → Lawful t → (cores : ℕ) (old new : List ℕ) (E : ℕ → Type 0) → ((x : ℕ) → E x → ⊥) → Wrote (t .pieces) (t .ancestor) (straight t cores) old new
+    → Best t cores E (entry t new)
+edges-best {t} law cores old new E nobody wrote = begun law cores E (entry t new) nobody (λ u w hu hw. ⊎-elim (there u w hu hw) (nowhere u w) (cases-bool (t .ancestor u w)))
+  where
+    there : (u w : ℕ) → u < t .pieces → w < t .pieces → t .ancestor u w ≡ true → entry t new u w ≡ straight t cores u w
+    there u w hu hw h = cond-true (t .ancestor u w) _ 0 h ∙ wrote u w hu hw ∙ cond-true (t .ancestor u w) _ _ h
+
+    nowhere : (u w : ℕ) → t .ancestor u w ≡ false → entry t new u w ≡ straight t cores u w
+    nowhere u w h =
+        cond-false (t .ancestor u w) _ 0 h
+        ∙ sym (cond-false (t .edge u w) _ 0 (⊎-elim (λ e. absurd (both-ways (t .ancestor u w) h (ancestor-one law u w e))) (λ e. e) (cases-bool (t .edge u w))))

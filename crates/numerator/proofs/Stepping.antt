@@ -36,6 +36,10 @@ module _ (t : Task) (cores : ℕ) where
 pub entry-read : (t : Task) (scratch : List ℕ) (u w place : ℕ) → t .ancestor u w ≡ true → place ≡ placeOf (t .pieces) u w → entry t scratch u w ≡ getD scratch place 0
 entry-read t scratch u w place h e = cond-true (t .ancestor u w) _ 0 h ∙ ap (λ i. getD scratch i 0) (sym e)
 
+-- and where there is none it is 0
+pub entry-none : (t : Task) (scratch : List ℕ) (u w : ℕ) → t .ancestor u w ≡ false → entry t scratch u w ≡ 0
+entry-none t scratch u w h = cond-false (t .ancestor u w) _ 0 h
+
 module _ {t : Task} (law : Lawful t) (cores : ℕ) (scratch : List ℕ) (u v w : ℕ) (to-v : t .ancestor u v ≡ true) (on-w : t .ancestor v w ≡ true)
     (a b c : ℕ) (at-a : a ≡ placeOf (t .pieces) u v) (at-b : b ≡ placeOf (t .pieces) v w) (at-c : c ≡ placeOf (t .pieces) u w) where
   to-is : entry t scratch u v ≡ getD scratch a 0
