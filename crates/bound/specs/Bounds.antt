@@ -31,7 +31,7 @@ pub record Bounded (t : Task) (cores : ℕ) (b : Bound) : Type 0 where
   pub chain : Chain t (b .chain)
   pub volume : b .volume ≡ volume t
   -- how much of what the cores can do in these ticks the task takes at worst
-  pub busy : Percent (volume t) (cores * b .ticks) (b .busy)
+  pub busy : Percent (b .volume) (cores * b .ticks) (b .busy)
 
 -- what is answered, and the scratch that is left: it is open after an accepted call
 abbrev pub BoundSays : Task → ℕ → List ℕ → Result Bound BoundRefusal → List ℕ → Type 0

@@ -6,7 +6,7 @@ use crate::percents::percent;
 use chains::chain;
 use numerator::BoundRefusal;
 use numerator::numerator;
-use numerator::work;
+use numerator::volume;
 use task::stages::Filed;
 
 // What a task is bounded by on a number of cores.
@@ -33,7 +33,7 @@ impl Bound {
     {
         let numerator = numerator(task, cores, scratch)?;
         let ticks = numerator / cores;
-        let volume = work(task, u64::MAX) as u32;
+        let volume = volume(task) as u32;
         Ok(Bound {
             numerator,
             ticks,

@@ -7,4 +7,4 @@ mod totals;
 
 pub use finding::numerator;
 pub use refusals::BoundRefusal;
-pub use totals::work;
+pub use totals::volume;

@@ -1,0 +1,2 @@
+-- Lemmas on the bound, by topic.
+pub mod Bounding
