@@ -43,10 +43,8 @@ impl Setting {
         if !has(self.task.predecessors(w), u) {
             return 0;
         }
+        let meeting = self.interference[u] | self.interference[w];
         self.cores * (self.task.worst(u) as u64 + self.task.worst(w) as u64)
-            + work(
-                &self.task,
-                self.interference[u] | self.interference[w],
-            )
+            + work(&self.task, meeting)
     }
 }
