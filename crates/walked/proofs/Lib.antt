@@ -1,0 +1,2 @@
+-- Lemmas on worst times.
+pub mod Times
