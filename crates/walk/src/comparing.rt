@@ -9,9 +9,6 @@ use walked::Walked;
 use walked::drawn_task;
 use walked::walk;
 
-// The scratch of 9 pieces: (9 + 2) × (9 + 2) numbers.
-const SCRATCH: usize = 121;
-
 // How much was compared.
 #[derive(Clone, Copy)]
 pub struct Tally {
@@ -97,11 +94,15 @@ fn compare(
     scratch: &mut [u64],
     tally: &mut Tally,
 ) -> Result<(), Ending> {
-    let mut cores = 0;
-    for numerator in &walked.numerators {
-        cores += 1;
+    for cores in 1..17 {
         let bound = Bound::of(task, cores, scratch)?;
-        same(tally, cores, "numerator", *numerator, bound.numerator)?;
+        same(
+            tally,
+            cores,
+            "numerator",
+            walked.numerator(cores),
+            bound.numerator,
+        )?;
         same(tally, cores, "chain", walked.chain, bound.chain)?;
     }
     Ok(())
@@ -116,12 +117,15 @@ fn compare_next(draws: &mut Draws, scratch: &mut [u64], tally: &mut Tally) -> Re
     compare(&task, &walked, scratch, tally)
 }
 
-// Draws so many tasks and compares each, up to the first that differs. The scratch is full of ones at first, and then as the last
-// call left it, so that a call that leans on what was there before would show.
-pub fn compare_all(draws: &mut Draws, tasks: u32, tally: &mut Tally) -> Ending {
-    let mut scratch = [u64::MAX; SCRATCH];
+// Draws so many tasks and compares each, up to the first that differs.
+pub fn compare_all(
+    draws: &mut Draws,
+    tasks: u32,
+    scratch: &mut [u64],
+    tally: &mut Tally,
+) -> Ending {
     for _ in 0..tasks {
-        if let Err(ending) = compare_next(draws, &mut scratch, tally) {
+        if let Err(ending) = compare_next(draws, scratch, tally) {
             return ending;
         }
     }

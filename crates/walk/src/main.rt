@@ -7,10 +7,14 @@ use comparing::compare_all;
 use std::io;
 use walked::Draws;
 
-// How many tasks are drawn, and the seed that they are drawn from.
+// How many tasks are drawn.
 const TASKS: u32 = 4000;
 
+// The seed that they are drawn from.
 const SEED: u64 = 20;
+
+// The scratch of 9 pieces: (9 + 2) × (9 + 2) numbers.
+const SCRATCH: usize = 121;
 
 // What was held against what, and how it ended.
 fn print_ending(rt: &impl Print, tally: &Tally, ending: &Ending) -> io::Result<()> {
@@ -45,9 +49,11 @@ fn print_ending(rt: &impl Print, tally: &Tally, ending: &Ending) -> io::Result<(
     }
 }
 
+// The scratch is full of ones at first, and then as the last call left it, so that a call that leans on what was there shows.
 fn main(rt: LibcRuntime) -> io::Result<()> {
     let mut draws = Draws::new(SEED);
     let mut tally = Tally::none();
-    let ending = compare_all(&mut draws, TASKS, &mut tally);
+    let mut scratch = [u64::MAX; SCRATCH];
+    let ending = compare_all(&mut draws, TASKS, &mut scratch, &mut tally);
     print_ending(&rt, &tally, &ending)
 }

@@ -1,5 +1,7 @@
 // A walk over every complete path, one after the other.
-ghost use Prim.Native.Nat.{_≤_, _<_, _+_, _*_};
+ghost use Prim.Native.Nat.{_≤_, _<_, _+_, _-_, _*_};
+ghost use mathlib.Core.Path.{_≡_};
+ghost use lib.ListN.{getD};
 ghost use Rattle.std.specs.Vec.{made};
 ghost use Rattle.task.specs.Filing.{filedTask};
 use crate::interfering::interfering;
@@ -12,7 +14,31 @@ use task::stages::Filed;
 pub struct Walked {
     pub paths: u64,
     pub chain: u64,
-    pub numerators: [u64; 16],
+    numerators: [u64; 16],
+}
+
+impl Walked {
+    // No path yet.
+    fn none() -> Walked
+        ensures { λ r. ⌜ r .chain ≡ 0 ⌝ }
+    {
+        Walked {
+            paths: 0,
+            chain: 0,
+            numerators: [0; 16],
+        }
+    }
+
+    // The largest numerator on a number of cores, and 0 on other than 1 to 16.
+    pub fn numerator(&self, cores: u32) -> u64
+        ensures on { λ r. ⌜ (1 ≤ cores → cores ≤ 16 → r ≡ getD (now (self .entry) .numerators) (cores - 1) 0) ⌝ }
+        ensures off { λ r. ⌜ (16 < cores → r ≡ 0) ⌝ }
+    {
+        if cores < 1 || cores > 16 {
+            return 0;
+        }
+        self.numerators[cores as usize - 1]
+    }
 }
 
 // A path of more than 64 pieces, which no task has.
@@ -90,11 +116,7 @@ fn walk_on(walked: &mut Walked, task: &Filed, path: Path, steps: u64) -> Result<
 pub fn walk(task: &Filed) -> Result<Walked, Unended>
     ensures { λ r. ⌜ made r (λ w. w .chain ≤ 4194240) ⌝ }
 {
-    let mut walked = Walked {
-        paths: 0,
-        chain: 0,
-        numerators: [0; 16],
-    };
+    let mut walked = Walked::none();
     let empty = Path {
         last: 0,
         length: 0,
