@@ -4,7 +4,6 @@ use bound::BoundRefusal;
 use example::lists::Refusal;
 use task::stages::Filed;
 use walked::Draws;
-use walked::Unended;
 use walked::Walked;
 use walked::drawn_task;
 use walked::walk;
@@ -44,7 +43,6 @@ pub enum Ending {
     Differed(Difference),
     Unfiled(u8),
     Unbounded(u8),
-    Unwalked,
 }
 
 impl From<Refusal> for Ending as EndingFromFiling {
@@ -56,13 +54,6 @@ impl From<Refusal> for Ending as EndingFromFiling {
 impl From<BoundRefusal> for Ending as EndingFromBound {
     fn from(e: BoundRefusal) -> Ending {
         Ending::Unbounded(e.number())
-    }
-}
-
-impl From<Unended> for Ending as EndingFromWalk {
-    fn from(e: Unended) -> Ending {
-        let Unended = e;
-        Ending::Unwalked
     }
 }
 
@@ -112,7 +103,7 @@ fn compare(
 fn compare_next(draws: &mut Draws, scratch: &mut [u64], tally: &mut Tally) -> Result<(), Ending> {
     tally.tasks = tally.tasks.saturating_add(1);
     let task = drawn_task(draws)?;
-    let walked = walk(&task)?;
+    let walked = walk(&task);
     tally.paths = tally.paths.saturating_add(walked.paths);
     compare(&task, &walked, scratch, tally)
 }

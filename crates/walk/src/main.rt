@@ -45,7 +45,6 @@ fn print_ending(rt: &impl Print, tally: &Tally, ending: &Ending) -> io::Result<(
             rt,
             "task {tasks} was not bounded, refused with {number}"
         ),
-        Ending::Unwalked => println!(rt, "task {tasks} was not walked to its ends"),
     }
 }
 

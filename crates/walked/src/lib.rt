@@ -6,6 +6,5 @@ mod walking;
 
 pub use drawing::drawn_task;
 pub use draws::Draws;
-pub use walking::Unended;
 pub use walking::Walked;
 pub use walking::walk;

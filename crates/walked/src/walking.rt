@@ -2,7 +2,7 @@
 ghost use Prim.Native.Nat.{_≤_, _<_, _+_, _-_, _*_};
 ghost use mathlib.Core.Path.{_≡_};
 ghost use lib.ListN.{getD};
-ghost use Rattle.std.specs.Vec.{made};
+ghost use Rattle.theory.proofs.Ancestors.{below};
 ghost use Rattle.task.specs.Filing.{filedTask};
 use crate::interfering::interfering;
 use crate::interfering::work;
@@ -41,10 +41,6 @@ impl Walked {
     }
 }
 
-// A path of more than 64 pieces, which no task has.
-#[derive(Clone, Copy)]
-pub struct Unended;
-
 // A path on its way: the piece that it has come to, its length, and all that interferes with a piece of it.
 #[derive(Clone, Copy)]
 struct Path {
@@ -57,7 +53,8 @@ struct Path {
 fn onward(task: &Filed, path: Path, v: usize) -> Path
     requires v { ⌜ v < filedTask (now task) .pieces ⌝ }
     requires length { ⌜ path .length ≤ 4194240 ⌝ }
-    ensures { λ r. ⌜ r .length ≤ path .length + 65535 ⌝ }
+    ensures last { λ r. ⌜ r .last ≡ v ⌝ }
+    ensures length { λ r. ⌜ r .length ≤ path .length + 65535 ⌝ }
 {
     Path {
         last: v,
@@ -91,30 +88,26 @@ fn take_in(walked: &mut Walked, task: &Filed, path: Path)
     }
 }
 
-// Walks on from where the path has come to, along every edge; it may go on by so many pieces.
-fn walk_on(walked: &mut Walked, task: &Filed, path: Path, steps: u64) -> Result<(), Unended>
-    requires length { ⌜ path .length + 65535 * steps ≤ 4194240 ⌝ }
+// Walks on from where the path has come to, along every edge. It ends since along an edge fewer pieces lie behind.
+fn walk_on(walked: &mut Walked, task: &Filed, path: Path)
+    requires length { ⌜ path .length + 65535 * below (filedTask (now task)) (path .last) ≤ 4194240 ⌝ }
     requires chain { ⌜ now walked .chain ≤ 4194240 ⌝ }
     ensures { λ _. ⌜ now (walked .exit) .chain ≤ 4194240 ⌝ }
 {
     if ends_at(task, path.last) {
         take_in(walked, task, path);
-        return Ok(());
-    }
-    if steps == 0 {
-        return Err(Unended);
+        return;
     }
     for v in 0..task.pieces() {
         if has(task.predecessors(v), path.last) {
-            walk_on(walked, task, onward(task, path, v), steps - 1)?;
+            walk_on(walked, task, onward(task, path, v));
         }
     }
-    Ok(())
 }
 
 // Walks every complete path: from each piece without predecessors along the edges to pieces that are nobody's predecessor.
-pub fn walk(task: &Filed) -> Result<Walked, Unended>
-    ensures { λ r. ⌜ made r (λ w. w .chain ≤ 4194240) ⌝ }
+pub fn walk(task: &Filed) -> Walked
+    ensures { λ r. ⌜ r .chain ≤ 4194240 ⌝ }
 {
     let mut walked = Walked::none();
     let empty = Path {
@@ -124,8 +117,8 @@ pub fn walk(task: &Filed) -> Result<Walked, Unended>
     };
     for v in 0..task.pieces() {
         if task.predecessors(v) == 0 {
-            walk_on(&mut walked, task, onward(task, empty, v), 63)?;
+            walk_on(&mut walked, task, onward(task, empty, v));
         }
     }
-    Ok(walked)
+    walked
 }
