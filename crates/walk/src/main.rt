@@ -48,7 +48,7 @@ fn print_ending(rt: &impl Print, tally: &Tally, ending: &Ending) -> io::Result<(
     }
 }
 
-// The scratch is full of ones at first, and then as the last call left it, so that a call that leans on what was there shows.
+// Draws, compares and prints. The scratch is full of ones at first, and then as the last call left it, so that a call that leans on what was there shows.
 fn main(rt: LibcRuntime) -> io::Result<()> {
     let mut draws = Draws::new(SEED);
     let mut tally = Tally::none();

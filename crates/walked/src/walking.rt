@@ -1,6 +1,7 @@
 // A walk over every complete path, one after the other.
 ghost use Prim.Native.Nat.{_≤_, _<_, _+_, _-_, _*_};
 ghost use mathlib.Core.Path.{_≡_};
+ghost use mathlib.Core.Logic.{_⊎_};
 ghost use lib.ListN.{getD};
 ghost use Rattle.theory.proofs.Ancestors.{below};
 ghost use Rattle.task.specs.Filing.{filedTask};
@@ -32,7 +33,7 @@ impl Walked {
     // The largest numerator on a number of cores, and 0 on other than 1 to 16.
     pub fn numerator(&self, cores: u32) -> u64
         ensures on { λ r. ⌜ (1 ≤ cores → cores ≤ 16 → r ≡ getD (now (self .entry) .numerators) (cores - 1) 0) ⌝ }
-        ensures off { λ r. ⌜ (16 < cores → r ≡ 0) ⌝ }
+        ensures off { λ r. ⌜ ((cores < 1) ⊎ (16 < cores) → r ≡ 0) ⌝ }
     {
         if cores < 1 || cores > 16 {
             return 0;
