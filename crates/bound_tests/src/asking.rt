@@ -3,14 +3,14 @@ use bound::Bound;
 use task::stages::Filed;
 
 // The scratch of 64 pieces: (64 + 2) × (64 + 2) numbers.
-pub const SCRATCH: usize = 4356;
+pub(crate) const SCRATCH: usize = 4356;
 
 // What is expected, in the order of the bound's fields: numerator, ticks, chain, volume and busy.
 #[derive(Clone, Copy)]
-pub struct Five(pub u32, pub u32, pub u32, pub u32, pub u32);
+pub(crate) struct Five(pub u32, pub u32, pub u32, pub u32, pub u32);
 
 // Whether the task is bounded so on so many cores. The scratch is full of ones at first: what it holds is nobody's business.
-pub fn bounded(task: &Filed, cores: u32, five: Five) -> bool {
+pub(crate) fn bounded(task: &Filed, cores: u32, five: Five) -> bool {
     let mut scratch = [u64::MAX; SCRATCH];
     let Ok(bound) = Bound::of(task, cores, &mut scratch) else {
         return false;

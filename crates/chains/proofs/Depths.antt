@@ -1,29 +1,22 @@
--- How many ancestors a piece has: more along an edge, and fewer than 64. Assumes nothing.
-use Prim.Native.Nat.{ℕ, _<_}
+-- How many ancestors a piece has, by the size of their set. Assumes nothing.
+use Prim.Native.Nat.{ℕ, _≤_, _<_}
 use native.Mathlib.Omega.{arith}
-use mathlib.Core.Path.{_≡_, refl, _∙_}
-use mathlib.Core.Bool.{true}
+use mathlib.Core.Path.{_≡_, ap, _∙_}
+use mathlib.Core.Logic.{⊎-elim}
+use mathlib.Core.Bool.{cond}
+use Rattle.std.proofs.shelf.Tests.{cases-bool}
 use Rattle.sets.specs.Sets.{sizeOf}
-use Rattle.sets.proofs.Counts.{count-all, count-strict}
-use Rattle.theory.specs.Tasks.{Task, Lawful}
-use Rattle.theory.proofs.Ancestors.{ancestor-one, ancestor-more}
+use Rattle.sets.proofs.Sums.{sum-cut}
+use Rattle.theory.specs.Tasks.{Task, above, Lawful}
+use Rattle.theory.proofs.Ancestors.{ancestor-ends}
 use Rattle.task.specs.Filing.{Related}
 use Rattle.task.proofs.Filed.{size-related}
-use Rattle.chains.specs.Chains.{depth}
 
 module _ {t : Task} (law : Lawful t) where
-  pub depth-grows : (a b : ℕ) → t .edge a b ≡ true → depth t a < depth t b
-  unfolding depth
-  depth-grows a b e =
-      count-strict 64 (λ k. t .ancestor k a) (λ k. t .ancestor k b) (λ k h. ancestor-more law k a b h e) a (omega (arith, law .few, law .ends a b e .0))
-      (law .acyclic a) (ancestor-one law a b e)
+  -- past the task there is none
+  outside : (v a : ℕ) → t .pieces ≤ a → cond {A = ℕ} (t .ancestor a v) 1 0 ≡ 0
+  outside v a l = ⊎-elim (λ h. let on = ancestor-ends law a v h in absurd (omega arith)) (λ h. ap (λ b. cond {A = ℕ} b 1 0) h) (cases-bool (t .ancestor a v))
 
-  pub depth-few : (v : ℕ) → v < t .pieces → depth t v < 64
-  unfolding depth
-  depth-few v l =
-      omega (arith, count-all 64, count-strict 64 (λ a. t .ancestor a v) (λ _. true) (λ _ _. refl) v (omega (arith, law .few)) (law .acyclic v) refl)
-
--- the size of the set of its ancestors
-pub depth-size : (t : Task) (v r : ℕ) → v < t .pieces → Related t (t .ancestor) v r → sizeOf r ≡ depth t v
-unfolding depth
-depth-size t v r l related = size-related t (t .ancestor) v r l related
+  pub above-size : (v r : ℕ) → v < t .pieces → Related t (t .ancestor) v r → sizeOf r ≡ above t v
+  unfolding above
+  above-size v r l related = size-related t (t .ancestor) v r l related ∙ sum-cut 64 (t .pieces) (λ a. cond (t .ancestor a v) 1 0) (law .few) (outside v)

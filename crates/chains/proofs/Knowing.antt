@@ -17,14 +17,14 @@ use Rattle.sets.proofs.Tables.{zeros}
 use Rattle.sets.proofs.Members.{set-true}
 use Rattle.sets.proofs.Iterating.{passed, Within, passed-none, passed-more, passed-all}
 use Rattle.sets.proofs.Bests.{largest-same}
-use Rattle.theory.specs.Tasks.{Task, Lawful}
+use Rattle.theory.specs.Tasks.{Task, above, Lawful}
 use Rattle.theory.specs.Paths.{Remaining}
+use Rattle.theory.proofs.Ancestors.{fewer-above, above-few}
 use Rattle.theory.proofs.Remaining.{remaining-step, remaining-small}
 use Rattle.theory.proofs.Sizes.{volume-most}
 use Rattle.task.specs.Filing.{Related}
 use Rattle.task.proofs.Filed.{related-at}
-use Rattle.chains.specs.Chains.{depth, deep, Known, Remainders}
-use Rattle.chains.proofs.Depths.{depth-grows, depth-few}
+use Rattle.chains.specs.Chains.{deep, Known, Remainders}
 
 module _ (t : Task) where
   -- only what the test says of pieces counts
@@ -79,8 +79,8 @@ deeper : (d l : ℕ) → (leb (l + 1) d || eqb d l) ≡ leb l d
 deeper d l = grind (arith)
 
 -- a loop over the pieces of a level, of which the rest is to come
-module _ {t : Task} (law : Lawful t) (levels : Levelled) (sorted : ByKey (depth t) (t .pieces) levels) (level set : ℕ) (same : set ≡ levelOf levels level) where
-  at : SetOf (t .pieces) (λ j. eqb (depth t j) level) set
+module _ {t : Task} (law : Lawful t) (levels : Levelled) (sorted : ByKey (above t) (t .pieces) levels) (level set : ℕ) (same : set ≡ levelOf levels level) where
+  at : SetOf (t .pieces) (λ j. eqb (above t j) level) set
   at j = ap (λ s. member s j) same ∙ sorted level j
 
   -- known are the deeper pieces, and those of the level that were passed
@@ -96,14 +96,14 @@ module _ {t : Task} (law : Lawful t) (levels : Levelled) (sorted : ByKey (depth 
   level-end rest lengths e =
       known-same t (reached rest) (deep t level) lengths
       (λ v l. ap (λ b. deep t (level + 1) v || b)
-      (passed-all set rest e v ∙ at v ∙ ap (λ b. b && eqb (depth t v) level) (lt-ltb v (t .pieces) l))
-      ∙ deeper (depth t v) level)
+      (passed-all set rest e v ∙ at v ∙ ap (λ b. b && eqb (above t v) level) (lt-ltb v (t .pieces) l))
+      ∙ deeper (above t v) level)
 
   -- piece v is taken, with what comes after it
   module _ (rest next v : ℕ) (inside : Within rest set) (here : member rest v ≡ true) (without : Without rest v next) (lengths : List ℕ)
       (known : Known t (reached rest) lengths) (after n worst : ℕ) (most : LargestWhere (member after) (λ w. getD lengths w 0) n)
       (time : worst ≡ cond (ltb v (t .pieces)) (t .worst v) 0) where
-    piece : (v < t .pieces) × (eqb (depth t v) level ≡ true)
+    piece : (v < t .pieces) × (eqb (above t v) level ≡ true)
     piece = set-true (t .pieces) set _ at v (inside v here)
 
     time-is : worst ≡ t .worst v
@@ -112,8 +112,8 @@ module _ {t : Task} (law : Lawful t) (levels : Levelled) (sorted : ByKey (depth 
     -- what follows a piece of the level is deeper
     ready : (w : ℕ) → t .edge v w ≡ true → reached rest w ≡ true
     ready w e =
-        let is = eqb-true (depth t v) level (piece .1) in
-        or-left (deep t (level + 1) w) (passed set rest w) (le-leb (level + 1) (depth t w) (omega (arith, depth-grows law v w e)))
+        let is = eqb-true (above t v) level (piece .1) in
+        or-left (deep t (level + 1) w) (passed set rest w) (le-leb (level + 1) (above t w) (omega (arith, fewer-above law v w e)))
 
     pub level-fits : worst + n ≤ 4259775
     level-fits =
@@ -130,10 +130,10 @@ module _ {t : Task} (law : Lawful t) (levels : Levelled) (sorted : ByKey (depth 
 -- no piece has 64 ancestors, and every one has 0 or more
 module _ {t : Task} (law : Lawful t) where
   pub known-start : Known t (deep t 64) (replicate 64 0)
-  known-start = known-none t (deep t 64) (λ v l. lt-leb 64 (depth t v) (depth-few law v l))
+  known-start = known-none t (deep t 64) (λ v l. lt-leb 64 (above t v) (omega (arith, above-few law v l, law .few)))
 
   pub known-all : (lengths : List ℕ) → Known t (deep t 0) lengths → Remainders t lengths
   known-all lengths k = record {
-    on-task = λ v l. k .exact v l (le-leb 0 (depth t v) (omega arith));
+    on-task = λ v l. k .exact v l (le-leb 0 (above t v) (omega arith));
     others = λ v l. k .open-yet v (λ m. absurd (omega arith));
   }

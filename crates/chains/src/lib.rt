@@ -3,9 +3,10 @@ ghost use Prim.Native.Nat.{_+_};
 ghost use lib.ListN.{getD};
 ghost use Rattle.sets.specs.Sets.{member, LargestWhere};
 ghost use Rattle.sets.specs.Levels.{ByKey};
+ghost use Rattle.theory.specs.Tasks.{above};
 ghost use Rattle.theory.specs.Paths.{Chain};
 ghost use Rattle.task.specs.Filing.{filedTask};
-ghost use Rattle.chains.specs.Chains.{depth, deep, Known, Remainders};
+ghost use Rattle.chains.specs.Chains.{deep, Known, Remainders};
 use sets::Levelled;
 use sets::PiecesIterator;
 use sets::first;
@@ -26,7 +27,7 @@ fn longest_of(lengths: &[u32; 64], set: u64) -> u32
 
 // The pieces by how many ancestors they have: along an edge there are more.
 fn by_depth(task: &Filed) -> Levelled
-    ensures { λ r. ⌜ ByKey (depth (filedTask (now (task .entry)))) (filedTask (now (task .entry)) .pieces) r ⌝ }
+    ensures { λ r. ⌜ ByKey (above (filedTask (now (task .entry)))) (filedTask (now (task .entry)) .pieces) r ⌝ }
 {
     let mut levels = Levelled::none();
     for v in 0..task.pieces() {
@@ -37,7 +38,7 @@ fn by_depth(task: &Filed) -> Levelled
 
 // Writes the remaining chains of the pieces of a level, where those of all deeper pieces are written.
 fn lengthen(task: &Filed, levels: &Levelled, level: usize, lengths: &mut [u32; 64])
-    requires sorted { ⌜ ByKey (depth (filedTask (now task))) (filedTask (now task) .pieces) (now levels) ⌝ }
+    requires sorted { ⌜ ByKey (above (filedTask (now task))) (filedTask (now task) .pieces) (now levels) ⌝ }
     requires deeper { ⌜ Known (filedTask (now task)) (deep (filedTask (now task)) (level + 1)) (now lengths) ⌝ }
     ensures { λ _. ⌜ Known (filedTask (now (task .entry))) (deep (filedTask (now (task .entry))) level) (now (lengths .exit)) ⌝ }
 {

@@ -2,7 +2,7 @@
 use Prim.Native.Nat.{ℕ, _+_, _<_}
 use mathlib.Core.Path.{_≡_, refl, sym, ap, subst, _∙_}
 use mathlib.Core.List.{List, [], _∷_, _++_}
-use mathlib.Core.Bool.{Bool, true, false, _&&_, _||_, or-false, or-assoc}
+use mathlib.Core.Bool.{Bool, _&&_, _||_, or-false, or-assoc}
 use lib.Dec.{eqb}
 use lib.ListN.{getD, length, take, drop}
 use Rattle.std.specs.declared.result.Result.the-variants.{Ok, Err}

@@ -1,6 +1,5 @@
 // Filing a task whose pieces, edges and priorities are given by lists.
 ghost use mathlib.Core.Path.{_≡_};
-ghost use Rattle.task.specs.Filing.{linkingTask};
 ghost use Rattle.example.specs.declared.lists.Refusal.the-variants.{Piece, Link, Ranking};
 ghost use Rattle.example.specs.Lists.{EnterAllSays, LinkAllSays, FileSays, refusalNumber};
 use task::priorities::Priority;

@@ -3,13 +3,13 @@ use Prim.Native.Nat.{ℕ, _+_, _≤_, _<_, max}
 use native.Mathlib.Omega.{arith}
 use mathlib.Core.Path.{_≡_, sym, ap, _∙_}
 use mathlib.Core.Logic.{_⊎_, inl, inr, ⊎-elim}
-use mathlib.Core.Bool.{true, false}
+use mathlib.Core.Bool.{false}
 use Rattle.std.proofs.shelf.Bits.{mul-le}
 use Rattle.std.proofs.shelf.Tests.{cases-bool, cases-eq, cases-lt}
 use Rattle.sets.specs.Sets.{LargestWhere}
 use Rattle.theory.specs.Tasks.{Task, Lawful}
 use Rattle.theory.specs.Inner.{alone, Greatest}
-use Rattle.task.proofs.Filed.{ancestor-ends}
+use Rattle.theory.proofs.Ancestors.{ancestor-ends}
 
 module _ {t : Task} (law : Lawful t) (cores : ℕ) (M : ℕ → ℕ → ℕ) (none : (u w : ℕ) → t .ancestor u w ≡ false → M u w ≡ 0) where
   -- where the largest comes from, among the pieces below i and the walks that end there

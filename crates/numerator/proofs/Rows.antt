@@ -1,21 +1,20 @@
 -- The table as it is written: first the edges, then for each piece v that is taken the rows of what leads to it. What a step goes
 -- by is not among the cells written. Assumes nothing.
-use Prim.Native.Nat.{ℕ, _+_, _≤_, _<_}
+use Prim.Native.Nat.{ℕ, _<_}
 use native.Mathlib.Omega.{arith}
-use mathlib.Core.Path.{_≡_, refl, sym, ap, ap₂, subst, _∙_}
+use mathlib.Core.Path.{_≡_, refl, sym, ap, subst, _∙_}
 use mathlib.Core.List.{List}
 use mathlib.Core.Logic.{_⊎_, inl, inr, ⊎-elim}
 use mathlib.Core.Bool.{Bool, true, false, cond, not, _&&_, _||_, and-false}
 use lib.Dec.{eqb}
 use lib.ListN.{getD}
-use Rattle.std.proofs.shelf.Tests.{both-ways, cases-bool, and-parts, and-from, and-left, and-right, cond-true, cond-false, eqb-true, eq-eqb, ne-eqb}
+use Rattle.std.proofs.shelf.Tests.{both-ways, cases-bool, and-parts, and-left, and-right, cond-true, cond-false, eqb-true, ne-eqb}
 use Rattle.sets.specs.Sets.{member, Without}
 use Rattle.sets.proofs.Iterating.{passed, Within, passed-more}
 use Rattle.theory.specs.Tasks.{Task, Lawful}
 use Rattle.theory.specs.Inner.{straight, stepped, Best}
-use Rattle.theory.proofs.Ancestors.{ancestor-one, ancestor-join, ancestor-apart}
+use Rattle.theory.proofs.Ancestors.{ancestor-one, ancestor-join, ancestor-ends, ancestor-apart}
 use Rattle.theory.proofs.Eliminating.{begun}
-use Rattle.task.proofs.Filed.{ancestor-ends}
 use Rattle.numerator.specs.Cells.{placeOf, cell, Wrote, entry, Ready}
 use Rattle.numerator.specs.Settings.{Behind}
 use Rattle.numerator.proofs.Lines.{unwritten, wrote-still, wrote-join}

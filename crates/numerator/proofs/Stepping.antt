@@ -1,17 +1,16 @@
 -- What allowing one more piece makes of the entry of a pair, from the three cells that it goes by. Assumes nothing.
-use Prim.Native.Nat.{ℕ, _+_, _-_, _≤_, _<_, max}
-use native.Mathlib.Omega.{arith}
-use mathlib.Core.Path.{_≡_, refl, sym, ap, _∙_}
+use Prim.Native.Nat.{ℕ, _+_, _-_, max}
+use mathlib.Core.Path.{_≡_, sym, ap, _∙_}
 use mathlib.Core.List.{List}
 use mathlib.Core.Logic.{_⊎_, inl, inr, ⊎-elim}
-use mathlib.Core.Bool.{Bool, true, false, cond, _||_}
+use mathlib.Core.Bool.{true, false, cond, _||_}
 use lib.Dec.{eqb}
 use lib.ListN.{getD}
 use Rattle.std.proofs.shelf.Tests.{cond-true, cond-false, or-left, or-right, or-from, eq-eqb, ne-eqb}
 use Rattle.theory.specs.Tasks.{Task, Lawful}
 use Rattle.theory.specs.Inner.{twice, stepped}
 use Rattle.theory.proofs.Ancestors.{ancestor-join}
-use Rattle.numerator.specs.Cells.{placeOf, cell, entry}
+use Rattle.numerator.specs.Cells.{placeOf, entry}
 
 module _ (t : Task) (cores : ℕ) where
   -- a step goes by three entries

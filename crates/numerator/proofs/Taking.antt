@@ -6,7 +6,7 @@ use mathlib.Core.List.{List}
 use mathlib.Core.Logic.{_⊎_, inl, inr, ⊎-elim}
 use mathlib.Core.Bool.{true, false, not, _&&_, and-true}
 use lib.Dec.{eqb}
-use Rattle.std.proofs.shelf.Tests.{both-ways, cases-eq, cases-lt, and-parts, and-left, and-right, and-from, not-from-false, eqb-true, eq-eqb, ne-eqb, eqb-false, not-true}
+use Rattle.std.proofs.shelf.Tests.{both-ways, cases-lt, and-left, and-right, eqb-true, eq-eqb, ne-eqb}
 use Rattle.sets.specs.Sets.{member, SetOf, Without}
 use Rattle.sets.specs.Levels.{levelOf, ByKey}
 use Rattle.sets.specs.declared.levels.Levelled.{Levelled}

@@ -1,9 +1,8 @@
 -- Interference sets as a table, one for each piece. Assumes nothing.
 use Prim.Native.Nat.{ℕ, _<_}
-use mathlib.Core.Path.{_≡_}
 use mathlib.Core.List.{List}
 use lib.ListN.{getD}
-use Rattle.sets.specs.Sets.{member, SetOf}
+use Rattle.sets.specs.Sets.{SetOf}
 use Rattle.theory.specs.Tasks.{Task}
 use Rattle.theory.specs.Paths.{interferes}
 

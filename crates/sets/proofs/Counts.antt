@@ -8,7 +8,7 @@ use lib.Dec.{eqb}
 use lib.Bits.{bitAnd, bitOr}
 use lib.Count.{ones, ones-step, ones-ones}
 use Rattle.std.proofs.shelf.Tests.{both-ways, eqb-true}
-use Rattle.sets.specs.Sets.{member, sum, count, sumOver, sizeOf}
+use Rattle.sets.specs.Sets.{member, count, sumOver, sizeOf}
 use Rattle.sets.proofs.Bits.{bit-first}
 use Rattle.sets.proofs.Members.{cond-member, member-next}
 use Rattle.sets.proofs.Sums.{sum-same, sum-mono, sum-strict, sum-add, sum-at, sum-over-none, sum-over-or, sum-over-without, cond-mono}

@@ -1,10 +1,9 @@
 -- A loop over the pieces of a set: which it has passed, from its start to its end. Assumes nothing.
 use Prim.Native.Nat.{ℕ}
 use mathlib.Core.Path.{_≡_, refl, sym, ap, _∙_}
-use mathlib.Core.Logic.{⊎-elim}
 use mathlib.Core.Bool.{Bool, true, false, not, _&&_, _||_, and-true}
 use lib.Dec.{eqb}
-use Rattle.std.proofs.shelf.Tests.{both-ways, cases-bool, and-parts, eqb-true}
+use Rattle.std.proofs.shelf.Tests.{both-ways, and-parts, eqb-true}
 use Rattle.sets.specs.Sets.{member, Without}
 use Rattle.sets.proofs.Members.{member-zero}
 

@@ -1,25 +1,27 @@
--- For whoever is handed a filed task: it is lawful, how its edges are counted, and its relations turned round and as sets. Assumes nothing.
+-- For whoever is handed a filed task: it is lawful, its worst times, how its edges are counted, and its relations turned round and as sets. Assumes nothing.
 use Prim.Native.Nat.{ℕ, _+_, _*_, _≤_, _<_}
 use native.Mathlib.Omega.{arith}
-use native.Mathlib.Bridge.{le-prop}
 use mathlib.Core.Path.{_≡_, refl, sym, ap, _∙_}
-use mathlib.Core.Logic.{⊎-elim, ∥∥₁-elim}
-use mathlib.Core.HLevel.{×-prop}
+use mathlib.Core.Logic.{⊎-elim}
 use mathlib.Core.Bool.{Bool, true, false, cond, _&&_, and-true, and-false}
 use lib.Dec.{ltb}
 use lib.ListN.{getD}
-use Rattle.std.proofs.shelf.Tests.{cases-bool, cond-both, lt-ltb}
+use Rattle.std.proofs.shelf.Tests.{cases-bool, cond-both, cond-true, lt-ltb}
 use Rattle.sets.specs.Sets.{member, sum, count, sizeOf}
 use Rattle.sets.proofs.Sums.{sum-more, sum-cut, sum-small}
 use Rattle.sets.proofs.Counts.{count-same}
-use Rattle.theory.specs.Tasks.{Task, Leads, Lawful}
+use Rattle.theory.specs.Tasks.{Task, Lawful}
 use Rattle.theory.proofs.Lawfuls.{lawful-of}
-use Rattle.theory.proofs.Ancestors.{leads-on}
+use Rattle.theory.proofs.Ancestors.{ancestor-ends}
 use Rattle.task.specs.Filing.{filedTask, Related}
 use Rattle.task.specs.declared.stages.Filed.{Filed}
 
 pub filed-lawful : (f : Filed) → Lawful (filedTask f)
 filed-lawful f = lawful-of (f .tables .lawful)
+
+-- what it answers for the worst time of one of its pieces
+pub worst-is : (f : Filed) (k r : ℕ) → k < filedTask f .pieces → r ≡ cond (ltb k (filedTask f .pieces)) (filedTask f .worst k) 0 → r ≡ filedTask f .worst k
+worst-is f k r l e = e ∙ cond-true (ltb k (filedTask f .pieces)) (filedTask f .worst k) 0 (lt-ltb k (filedTask f .pieces) l)
 
 -- the edges to the pieces below i
 abbrev pub edgesBelow : Filed → ℕ → ℕ
@@ -49,14 +51,6 @@ module _ (f : Filed) where
   edges-few i = sum-small i 64 (λ b. count (t .pieces) (λ a. t .edge a b)) (λ b _. omega (arith, few-here b, f .tables .few))
 
 -- ---- relations turned round
-
--- both ends of a way along edges are pieces
-pub ancestor-ends : {t : Task} → Lawful t → (a b : ℕ) → t .ancestor a b ≡ true → (a < t .pieces) × (b < t .pieces)
-ancestor-ends {t} law a b h = ∥∥₁-elim (law .exact a b .0 h) (×-prop le-prop le-prop) (λ l. (from l, leads-on law l))
-  where
-    from : {x y : ℕ} → Leads t x y → x < t .pieces
-    from (Leads.one e) = law .ends _ _ e .0
-    from (Leads.more l e) = from l
 
 -- a test that implies two others, with the one and with the other
 either-end : (p q r : Bool) → (r ≡ true → p ≡ true) → (r ≡ true → q ≡ true) → (p && r) ≡ (q && r)

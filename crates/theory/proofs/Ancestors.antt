@@ -1,13 +1,14 @@
 -- Ways along the edges, ancestors by what leads where, and how many a piece has above and below it. Assumes nothing.
 use Prim.Native.Nat.{ℕ, _<_}
+use native.Mathlib.Bridge.{le-prop}
 use native.Mathlib.Omega.{arith}
 use mathlib.Core.Path.{_≡_, refl, sym, subst}
 use mathlib.Core.Logic.{∥∥₁-elim, ∥∥₁-map, ∥∥₁-prop}
+use mathlib.Core.HLevel.{×-prop}
 use mathlib.Core.Bool.{true}
 use Rattle.std.proofs.shelf.Tests.{both-ways}
-use Rattle.sets.specs.Sets.{count}
 use Rattle.sets.proofs.Counts.{count-all, count-strict}
-use Rattle.theory.specs.Tasks.{Task, Leads, Lawful}
+use Rattle.theory.specs.Tasks.{Task, Leads, above, below, Lawful}
 
 -- a way behind a way
 pub leads-join : {t : Task} {a b c : ℕ} → Leads t a b → Leads t b c → Leads t a c
@@ -35,32 +36,39 @@ module _ {t : Task} (law : Lawful t) where
   leads-on (Leads.one e) = law .ends _ _ e .1
   leads-on (Leads.more l e) = law .ends _ _ e .1
 
+  leads-from : {a b : ℕ} → Leads t a b → a < t .pieces
+  leads-from (Leads.one e) = law .ends _ _ e .0
+  leads-from (Leads.more l e) = leads-from l
+
   -- no piece is its own ancestor
   pub ancestor-apart : (a b : ℕ) → t .ancestor a b ≡ true → a ≡ b → ⊥
   ancestor-apart a b h e = both-ways (t .ancestor a a) (law .acyclic a) (subst (λ y. t .ancestor a y ≡ true) (sym e) h)
 
--- how many pieces lead to v, and to how many v leads: by these a walk along the edges ends
-pub above : Task → ℕ → ℕ
-above t v = count (t .pieces) (λ a. t .ancestor a v)
+  -- both ends of a way along edges are pieces
+  pub ancestor-ends : (a b : ℕ) → t .ancestor a b ≡ true → (a < t .pieces) × (b < t .pieces)
+  ancestor-ends a b h = ∥∥₁-elim (law .exact a b .0 h) (×-prop le-prop le-prop) (λ l. (leads-from l, leads-on l))
 
-pub below : Task → ℕ → ℕ
-below t v = count (t .pieces) (t .ancestor v)
+  -- ---- how many are above and below: by these a walk along the edges ends
 
-module _ {t : Task} (law : Lawful t) where
   -- against an edge fewer pieces are above, and along it fewer below
   pub fewer-above : (a b : ℕ) → t .edge a b ≡ true → above t a < above t b
   unfolding above
   fewer-above a b e =
-      count-strict (t .pieces) (λ k. t .ancestor k a) (λ k. t .ancestor k b) (λ k h. ancestor-more law k a b h e) a
-      (law .ends a b e .0) (law .acyclic a) (ancestor-one law a b e)
+      count-strict (t .pieces) (λ k. t .ancestor k a) (λ k. t .ancestor k b) (λ k h. ancestor-more k a b h e) a
+      (law .ends a b e .0) (law .acyclic a) (ancestor-one a b e)
 
   pub fewer-below : (a b : ℕ) → t .edge a b ≡ true → below t b < below t a
   unfolding below
   fewer-below a b e =
-      count-strict (t .pieces) (t .ancestor b) (t .ancestor a) (λ k h. ancestor-join law a b k (ancestor-one law a b e) h) b
-      (law .ends a b e .1) (law .acyclic b) (ancestor-one law a b e)
+      count-strict (t .pieces) (t .ancestor b) (t .ancestor a) (λ k h. ancestor-join a b k (ancestor-one a b e) h) b
+      (law .ends a b e .1) (law .acyclic b) (ancestor-one a b e)
 
-  -- a piece is not below itself, so those are fewer than all
+  -- a piece is neither above nor below itself, so those are fewer than all
+  pub above-few : (v : ℕ) → v < t .pieces → above t v < t .pieces
+  unfolding above
+  above-few v l =
+      omega (arith, count-all (t .pieces), count-strict (t .pieces) (λ a. t .ancestor a v) (λ k. true) (λ k h. refl) v l (law .acyclic v) refl)
+
   pub below-few : (v : ℕ) → v < t .pieces → below t v < t .pieces
   unfolding below
   below-few v l =

@@ -3,9 +3,9 @@ use Prim.Native.Nat.{ℕ, zero, suc, _≤_, _<_}
 use native.Mathlib.Omega.{arith}
 use mathlib.Core.List.{List, [], _∷_, _++_}
 use mathlib.Core.Logic.{⊎-elim}
-use Rattle.theory.specs.Tasks.{Task, Lawful}
+use Rattle.theory.specs.Tasks.{Task, above, below, Lawful}
 use Rattle.theory.specs.Paths.{Linked, Sink, EndsAt, Complete, lengthOf, numeratorOf}
-use Rattle.theory.proofs.Ancestors.{above, below, fewer-above, fewer-below}
+use Rattle.theory.proofs.Ancestors.{fewer-above, fewer-below}
 use Rattle.theory.proofs.Paths.{length-append, numerator-append, numerator-before}
 use Rattle.theory.proofs.Listed.{Trail, next-or, trail-from}
 

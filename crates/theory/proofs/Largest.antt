@@ -7,11 +7,11 @@ use mathlib.Core.List.{List, [], _∷_}
 use mathlib.Core.Logic.{_⊎_, inl, inr, ⊎-elim, Or·elim, Or·inl, Or·inr}
 use mathlib.Core.Bool.{not}
 use Rattle.std.proofs.shelf.Tests.{cases-lt, not-from-false}
-use Rattle.theory.specs.Tasks.{Task, Lawful}
+use Rattle.theory.specs.Tasks.{Task, below, Lawful}
 use Rattle.theory.specs.Paths.{Complete, LargestOf, Numerator, Chain, lengthOf, numeratorOf}
 use Rattle.theory.specs.Listing.{In, any, trails, largest, walk, numerator, chain}
 use Rattle.theory.specs.Laws.{Bound-is-the-largest}
-use Rattle.theory.proofs.Ancestors.{below, fewer-below, below-few}
+use Rattle.theory.proofs.Ancestors.{fewer-below, below-few}
 use Rattle.theory.proofs.Tests.{none-any}
 use Rattle.theory.proofs.Paths.{linked-start}
 use Rattle.theory.proofs.Listed.{in-each, each-in, last-of, trails-sound, trails-full}

@@ -3,6 +3,7 @@ use Prim.Native.Nat.{ℕ, _≤_, _<_}
 use mathlib.Core.Path.{_≡_}
 use mathlib.Core.Logic.{_↔_, _∨₁_}
 use mathlib.Core.Bool.{Bool, true, false}
+use Rattle.sets.specs.Sets.{count}
 
 pub record Task : Type 0 where
   -- how many pieces there are: they are numbered from 0
@@ -20,6 +21,13 @@ pub record Task : Type 0 where
 pub data Leads (t : Task) : ℕ → ℕ → Type 0 where
   one : {a b : ℕ} → t .edge a b ≡ true → Leads t a b
   more : {a b c : ℕ} → Leads t a b → t .edge b c ≡ true → Leads t a c
+
+-- how many pieces are above v, its ancestors, and how many below it; shut, so that no goal spells out their terms
+unfoldable pub above : Task → ℕ → ℕ
+above t v = count (t .pieces) (λ a. t .ancestor a v)
+
+unfoldable pub below : Task → ℕ → ℕ
+below t v = count (t .pieces) (t .ancestor v)
 
 -- what holds of every task that filing gives
 pub record Lawful (t : Task) : Type 0 where

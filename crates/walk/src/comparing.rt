@@ -1,16 +1,16 @@
 // Comparing what the walk says of a task with what the call says, on every number of cores.
+use crate::drawing::drawn_task;
+use crate::draws::Draws;
+use crate::walking::Walked;
+use crate::walking::walk;
 use bound::Bound;
 use bound::BoundRefusal;
 use example::lists::Refusal;
 use task::stages::Filed;
-use walked::Draws;
-use walked::Walked;
-use walked::drawn_task;
-use walked::walk;
 
 // How much was compared.
 #[derive(Clone, Copy)]
-pub struct Tally {
+pub(crate) struct Tally {
     pub tasks: u32,
     pub paths: u64,
     pub comparisons: u64,
@@ -18,7 +18,7 @@ pub struct Tally {
 
 impl Tally {
     // Nothing yet.
-    pub fn none() -> Tally {
+    pub(crate) fn none() -> Tally {
         Tally {
             tasks: 0,
             paths: 0,
@@ -29,7 +29,7 @@ impl Tally {
 
 // Where the walk and the call differ, on which number, and what each says.
 #[derive(Clone, Copy)]
-pub struct Difference {
+pub(crate) struct Difference {
     pub cores: u32,
     pub what: &'static str,
     pub walked: u64,
@@ -38,7 +38,7 @@ pub struct Difference {
 
 // How a comparison ended. Where it did not go to its end, the last task that was counted is the one that it ended at.
 #[derive(Clone, Copy)]
-pub enum Ending {
+pub(crate) enum Ending {
     Agreed,
     Differed(Difference),
     Unfiled(u8),
@@ -109,7 +109,7 @@ fn compare_next(draws: &mut Draws, scratch: &mut [u64], tally: &mut Tally) -> Re
 }
 
 // Draws so many tasks and compares each, up to the first that differs.
-pub fn compare_all(
+pub(crate) fn compare_all(
     draws: &mut Draws,
     tasks: u32,
     scratch: &mut [u64],

@@ -1,11 +1,15 @@
 // Holds the bound against a walk over every complete path, on tasks drawn from a seed, and prints the first difference if any.
 mod comparing;
+mod drawing;
+mod draws;
+mod interfering;
+mod walking;
 
 use comparing::Ending;
 use comparing::Tally;
 use comparing::compare_all;
+use draws::Draws;
 use std::io;
-use walked::Draws;
 
 // How many tasks are drawn.
 const TASKS: u32 = 4000;

@@ -1,6 +1,5 @@
 -- Each turn takes in one more piece of the set, until it has all.
 use native.Mathlib.Omega.{arith}
-use Prim.Native.Nat.{max}
 use mathlib.Core.Path.{_≡_, sym, ap, _∙_}
 use lib.ListN.{getD}
 use Rattle.sets.specs.Sets.{member}

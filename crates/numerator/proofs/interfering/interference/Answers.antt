@@ -1,5 +1,5 @@
 -- Each turn adds the next piece where it interferes.
-use Prim.Native.Nat.{ℕ, _<_}
+use Prim.Native.Nat.{ℕ}
 use native.Mathlib.Omega.{arith}
 use mathlib.Core.Path.{_≡_, subst}
 use Rattle.sets.specs.Sets.{SetOf}

@@ -1,7 +1,6 @@
 -- Each turn writes the set of one more piece.
-use Prim.Native.Nat.{ℕ, _<_}
+use Prim.Native.Nat.{_<_}
 use native.Mathlib.Omega.{arith}
-use mathlib.Core.Path.{_≡_}
 use lib.ListN.{length}
 use Rattle.sets.specs.Sets.{SetOf}
 use Rattle.sets.proofs.Tables.{kept-length, set-below}

@@ -1,8 +1,6 @@
 -- Each turn takes in the walks from one more ancestor of w.
-use Prim.Native.Nat.{ℕ, max}
 use native.Mathlib.Omega.{arith}
 use mathlib.Core.Path.{_≡_, sym, ap, _∙_}
-use Rattle.sets.specs.Sets.{member}
 use Rattle.sets.proofs.Iterating.{passed, passed-none, passed-more, passed-all, within-none, within-more}
 use Rattle.sets.proofs.Bests.{largest-none, largest-more, largest-same}
 use Rattle.task.proofs.Filed.{filed-lawful, ancestor-in, related-at}

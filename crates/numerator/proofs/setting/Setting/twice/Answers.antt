@@ -1,5 +1,5 @@
 -- What meets v is counted by own, and what meets both ends but not v is added to it.
-use Prim.Native.Nat.{_+_, _<_, _^_}
+use Prim.Native.Nat.{_<_, _^_}
 use native.Mathlib.Omega.{arith}
 use lib.ListN.{getD}
 use Rattle.theory.proofs.Sizes.{product-small, volume-small}

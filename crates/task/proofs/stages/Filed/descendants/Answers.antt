@@ -1,7 +1,8 @@
 -- The table of ancestors, turned round.
 use mathlib.Core.Path.{_∙_}
 use Rattle.task.specs.Filing.{filedTask}
-use Rattle.task.proofs.Filed.{filed-lawful, ancestor-ends, other-end}
+use Rattle.theory.proofs.Ancestors.{ancestor-ends}
+use Rattle.task.proofs.Filed.{filed-lawful, other-end}
 use Rattle.task.proofs.stages.Filed.descendants.Needs as need
 
 pub returns : need.returns

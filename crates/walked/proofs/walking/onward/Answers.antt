@@ -1,7 +1,0 @@
--- A piece adds at most 65,535.
-use native.Mathlib.Omega.{arith}
-use Rattle.walked.proofs.Times.{worst-small}
-use Rattle.walked.proofs.walking.onward.Needs as need
-
-pub returns : need.returns
-returns c = omega (arith, worst-small (c .args .task .now) (c .args .v) (c .worst .result) (c .pre .v) (c .worst .ensures))
