@@ -33,6 +33,6 @@ module _ {t : Task} (law : Lawful t) where
       }
 
 -- a share of so much at most, of 1 or more, is small
-pub percent-small : (part whole p : ℕ) → part ≤ 4194240 → whole ≤ 71302080 → Percent part whole p → p < 2 ^ 32
+pub percent-small : (part whole p : ℕ) → part ≤ 4194240 → whole ≤ 67107840 → Percent part whole p → p < 2 ^ 32
 percent-small part whole p few most h =
     ⊎-elim (λ some. omega (arith, h .at-least some, mul-le p 1 p whole (omega arith) some)) (λ zero. omega (arith, h .none (omega arith))) (cases-lt 0 whole)

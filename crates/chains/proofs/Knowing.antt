@@ -28,18 +28,18 @@ use Rattle.chains.specs.Chains.{deep, Known, Remainders}
 
 module _ (t : Task) where
   -- only what the test says of pieces counts
-  pub known-same : (p q : ℕ → Bool) (lengths : List ℕ) → ((v : ℕ) → v < t .pieces → p v ≡ q v) → Known t p lengths → Known t q lengths
+  known-same : (p q : ℕ → Bool) (lengths : List ℕ) → ((v : ℕ) → v < t .pieces → p v ≡ q v) → Known t p lengths → Known t q lengths
   known-same p q lengths same k = record {
     exact = λ v l h. k .exact v l (same v l ∙ h);
     open-yet = λ v none. k .open-yet v (λ l. same v l ∙ none l);
   }
 
   -- nothing is known at first
-  pub known-none : (p : ℕ → Bool) → ((v : ℕ) → v < t .pieces → p v ≡ false) → Known t p (replicate 64 0)
+  known-none : (p : ℕ → Bool) → ((v : ℕ) → v < t .pieces → p v ≡ false) → Known t p (replicate 64 0)
   known-none p none = record { exact = λ v l h. absurd (both-ways (p v) (none v l) h); open-yet = λ v _. zeros 64 v }
 
   -- one more entry is written
-  pub known-more : (p q : ℕ → Bool) (old : List ℕ) (v n : ℕ) → v < length old → v < t .pieces → Known t p old
+  known-more : (p q : ℕ → Bool) (old : List ℕ) (v n : ℕ) → v < length old → v < t .pieces → Known t p old
       → ((j : ℕ) → q j ≡ (p j || eqb v j)) → Remaining t v n → Known t q (ListN.set old v n)
   known-more p q old v n inside on-task k one here = record { exact = exact; open-yet = open-yet }
     where
@@ -58,14 +58,14 @@ module _ (t : Task) where
 
 module _ {t : Task} (law : Lawful t) where
   -- what the table holds is small
-  pub known-small : (p : ℕ → Bool) (lengths : List ℕ) → Known t p lengths → (v : ℕ) → getD lengths v 0 ≤ 4194240
+  known-small : (p : ℕ → Bool) (lengths : List ℕ) → Known t p lengths → (v : ℕ) → getD lengths v 0 ≤ 4194240
   known-small p lengths k v =
       ⊎-elim (λ l. ⊎-elim (λ h. omega (arith, remaining-small law v _ (k .exact v l h), volume-most law)) (λ h. omega (arith, k .open-yet v (λ _. h))) (cases-bool (p v)))
       (λ l. omega (arith, k .open-yet v (λ m. absurd (omega arith))))
       (cases-lt v (t .pieces))
 
   -- where all that follow v are known, the largest of theirs and its worst time are its own
-  pub known-here : (p : ℕ → Bool) (lengths : List ℕ) (v after n : ℕ) → v < t .pieces → Known t p lengths
+  known-here : (p : ℕ → Bool) (lengths : List ℕ) (v after n : ℕ) → v < t .pieces → Known t p lengths
       → ((w : ℕ) → t .edge v w ≡ true → p w ≡ true) → Related t (λ x y. t .edge y x) v after
       → LargestWhere (member after) (λ w. getD lengths w 0) n → Remaining t v (t .worst v + n)
   known-here p lengths v after n on-task k ready related most =

@@ -23,7 +23,7 @@ unfolding roomOf
 room-in n = mul-le n n (n + 2) (n + 2) (omega arith) (omega arith)
 
 -- two pairs with one place are one pair
-pub place-once : (n a b u w : ℕ) → b < n → w < n → placeOf n a b ≡ placeOf n u w → (a ≡ u) × (b ≡ w)
+place-once : (n a b u w : ℕ) → b < n → w < n → placeOf n a b ≡ placeOf n u w → (a ≡ u) × (b ≡ w)
 unfolding placeOf
 place-once n a b u w hb hw e = (
   sym (div-mul-add a n b hb) ∙ ap (λ y. y / n) e ∙ div-mul-add u n w hw,

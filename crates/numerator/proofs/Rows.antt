@@ -16,7 +16,6 @@ use Rattle.theory.specs.Inner.{straight, stepped, Best}
 use Rattle.theory.proofs.Ancestors.{ancestor-one, ancestor-join, ancestor-ends, ancestor-apart}
 use Rattle.theory.proofs.Eliminating.{begun}
 use Rattle.numerator.specs.Cells.{placeOf, cell, Wrote, entry, Ready}
-use Rattle.numerator.specs.Settings.{Behind}
 use Rattle.numerator.proofs.Lines.{unwritten, wrote-still, wrote-join}
 use Rattle.numerator.proofs.Stepping.{entry-read, stepped-same, stepped-stays}
 
@@ -38,17 +37,17 @@ module _ {t : Task} (law : Lawful t) (cores v : ℕ) (hv : v < t .pieces) (old c
   from-same : (b : ℕ) → b < t .pieces → entry t cur v b ≡ entry t old v b
   from-same b hb = same-entry t old cur v b (unwritten (t .pieces) _ p old cur v b wrote hv hb (off-row b))
 
-  pub still-ready : Ready t old v → Ready t cur v
+  still-ready : Ready t old v → Ready t cur v
   still-ready ready a ha = (omega (arith, to-same a ha, ready a ha .0), omega (arith, from-same a ha, ready a ha .1))
 
   -- so a step at a pair that was not written gives the same
-  pub still-steps : (u w : ℕ) → u < t .pieces → w < t .pieces → p u w ≡ false → stepped t cores (entry t cur) v u w ≡ stepped t cores (entry t old) v u w
+  still-steps : (u w : ℕ) → u < t .pieces → w < t .pieces → p u w ≡ false → stepped t cores (entry t cur) v u w ≡ stepped t cores (entry t old) v u w
   still-steps u w hu hw none =
       stepped-same t cores (entry t cur) (entry t old) v u w (to-same u hu) (from-same w hw)
       (same-entry t old cur u w (unwritten (t .pieces) _ p old cur u w wrote hu hw none))
 
 -- what v leads to is a piece, and not v
-module _ {t : Task} (law : Lawful t) (v behind : ℕ) (is-behind : Behind t v behind) where
+module _ {t : Task} (law : Lawful t) (v behind : ℕ) (is-behind : (x : ℕ) → member behind x ≡ t .ancestor v x) where
   pub behind-piece : (w : ℕ) → member behind w ≡ true → (t .ancestor v w ≡ true) × (w < t .pieces)
   behind-piece w h = let is = sym (is-behind w) ∙ h in (is, ancestor-ends law v w is .1)
 
@@ -56,7 +55,7 @@ module _ {t : Task} (law : Lawful t) (v behind : ℕ) (is-behind : Behind t v be
   behind-not rest = and-left (member behind v) (not (member rest v)) (is-behind v ∙ law .acyclic v)
 
 -- row u, of which the cells with the pieces passed are written
-module _ {t : Task} (law : Lawful t) (cores u v : ℕ) (hu : u < t .pieces) (hv : v < t .pieces) (to : t .ancestor u v ≡ true) (behind : ℕ) (is-behind : Behind t v behind) where
+module _ {t : Task} (law : Lawful t) (cores u v : ℕ) (hu : u < t .pieces) (hv : v < t .pieces) (to : t .ancestor u v ≡ true) (behind : ℕ) (is-behind : (x : ℕ) → member behind x ≡ t .ancestor v x) where
   -- where no walk leads from u to v, the row stays
   pub row-stays : (m : List ℕ) (place : ℕ) → place ≡ placeOf (t .pieces) u v → getD m place 0 ≡ 0
       → Wrote (t .pieces) (λ a b. eqb u a && t .ancestor v b) (stepped t cores (entry t m) v) m m

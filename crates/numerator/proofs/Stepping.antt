@@ -27,7 +27,7 @@ module _ (t : Task) (cores : ℕ) where
       (⊎-elim (λ e. or-left (eqb (M u v) 0) _ (eq-eqb (M u v) 0 e)) (λ e. or-right (eqb (M u v) 0) _ (eq-eqb (M v w) 0 e)) none)
 
   -- where there are walks on both, the larger of the entry and of the two joined
-  pub stepped-joins : (M : ℕ → ℕ → ℕ) (v u w : ℕ) → (M u v ≡ 0 → ⊥) → (M v w ≡ 0 → ⊥)
+  stepped-joins : (M : ℕ → ℕ → ℕ) (v u w : ℕ) → (M u v ≡ 0 → ⊥) → (M v w ≡ 0 → ⊥)
       → stepped t cores M v u w ≡ max (M u w) ((M u v + M v w) - twice t cores u v w)
   stepped-joins M v u w to on = cond-false (eqb (M u v) 0 || eqb (M v w) 0) _ _ (or-from (eqb (M u v) 0) _ (ne-eqb (M u v) 0 to) (ne-eqb (M v w) 0 on))
 

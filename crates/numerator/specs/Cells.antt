@@ -27,4 +27,4 @@ entry t scratch u w = cond (t .ancestor u w) (cell (t .pieces) scratch u w) 0
 
 -- the entries of walks to v and from v are small enough to be added
 abbrev pub Ready : Task → List ℕ → ℕ → Type 0
-Ready t scratch v = (a : ℕ) → a < t .pieces → (entry t scratch a v ≤ 71302080) × (entry t scratch v a ≤ 71302080)
+Ready t scratch v = (a : ℕ) → a < t .pieces → (entry t scratch a v ≤ 67107840) × (entry t scratch v a ≤ 67107840)

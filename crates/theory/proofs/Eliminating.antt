@@ -1,7 +1,7 @@
 -- The table of the largest numerators of walks: as it begins, and as one more piece is allowed. Assumes nothing.
 use Prim.Native.Nat.{ℕ, _+_, _-_, _≤_, _<_, max}
 use native.Mathlib.Omega.{arith}
-use mathlib.Core.Path.{_≡_, refl, sym, ap, _∙_}
+use mathlib.Core.Path.{_≡_, sym, ap, _∙_}
 use mathlib.Core.List.{List, [], _∷_, _++_}
 use mathlib.Core.Logic.{_⊎_, inl, inr}
 use mathlib.Core.Bool.{true, cond, _||_}
@@ -10,8 +10,7 @@ use Rattle.std.proofs.shelf.Tests.{cases-lt, cases-bool, eqb-false, cond-true, 
 use Rattle.std.proofs.shelf.Ways.{tells}
 use Rattle.theory.specs.Tasks.{Task, Lawful}
 use Rattle.theory.specs.Inner.{Via, weight, twice, straight, Best, stepped}
-use Rattle.theory.proofs.Ancestors.{ancestor-apart}
-use Rattle.theory.proofs.Walking.{via-wider, via-join, via-within, via-ancestor}
+use Rattle.theory.proofs.Walking.{via-wider, via-join, via-within}
 use Rattle.theory.proofs.Splitting.{Parts, weight-join, weight-pos, splits}
 
 -- an entry never shrinks, is at least what leads through the piece where something does, and is one of the two
@@ -88,11 +87,6 @@ module _ {t : Task} (law : Lawful t) (cores : ℕ) (some-core : 1 ≤ cores) (E 
               inr (r .0 ++ v ∷ s .0, via-join t E F wider u (r .0) v (s .0) w (r .1) it (s .1), omega (arith, n, d .2, j, r .2, s .2))
 
 module _ {t : Task} (law : Lawful t) (cores : ℕ) where
-  -- no walk comes back, so the diagonal stays 0
-  pub diagonal : (E : ℕ → Type 0) (M : ℕ → ℕ → ℕ) → Best t cores E M → (v : ℕ) → v < t .pieces → M v v ≡ 0
-  diagonal E M best v h =
-      elim (best .reached v v h h) [ inl z ↦ z | inr r ↦ absurd (ancestor-apart law v v (via-ancestor law E v (r .0) v (r .1)) refl) ]
-
   -- where no piece is allowed yet, a single edge is the only walk
   pub begun : (E : ℕ → Type 0) (M : ℕ → ℕ → ℕ) → ((x : ℕ) → E x → ⊥)
       → ((u w : ℕ) → u < t .pieces → w < t .pieces → M u w ≡ straight t cores u w) → Best t cores E M

@@ -25,21 +25,21 @@ module _ {t : Task} (law : Lawful t) where
   pub product-small : (cores v : ℕ) → cores ≤ 16 → v < t .pieces → cores * t .worst v ≤ 1048560
   product-small cores v c h = omega (arith, mul-le cores (t .worst v) 16 65535 c (law .at-most v h))
 
-  -- 16 times a length, and an interference set, each at most the volume
-  path-small : (cores : ℕ) (path : List ℕ) → cores ≤ 16 → Linked t path → numeratorOf t cores path ≤ 71302080
+  -- 16 times the volume: a path and its interference set are within it
+  path-small : (cores : ℕ) (path : List ℕ) → cores ≤ 16 → Linked t path → numeratorOf t cores path ≤ 67107840
   path-small cores path c l =
       let both = within-volume law path l in
-      omega (arith, volume-most, mul-le cores (lengthOf t path) 16 4194240 c (omega (arith, volume-most)))
+      omega (arith, volume-most, mul-le cores (lengthOf t path) 16 (lengthOf t path) c (omega arith))
 
-  pub weight-small : (cores : ℕ) → cores ≤ 16 → (E : ℕ → Type 0) (u : ℕ) (l : List ℕ) (w : ℕ) → Via t E u l w → weight t cores u l w ≤ 71302080
+  weight-small : (cores : ℕ) → cores ≤ 16 → (E : ℕ → Type 0) (u : ℕ) (l : List ℕ) (w : ℕ) → Via t E u l w → weight t cores u l w ≤ 67107840
   weight-small cores c E u l w p = omega (arith, numerator-walk t cores u l w, path-small cores (u ∷ (l ++ w ∷ [])) c (walk-linked law E u l w p))
 
   pub entry-small : (cores : ℕ) → cores ≤ 16 → (E : ℕ → Type 0) (M : ℕ → ℕ → ℕ) → Best t cores E M → (u w : ℕ) → u < t .pieces → w < t .pieces
-      → M u w ≤ 71302080
+      → M u w ≤ 67107840
   entry-small cores c E M best u w hu hw =
       elim (best .reached u w hu hw) [ inl z ↦ omega (arith, z) | inr r ↦ omega (arith, r .2, weight-small cores c E u (r .0) w (r .1)) ]
 
-  pub numerator-small : (cores n : ℕ) → cores ≤ 16 → Numerator t cores n → n ≤ 71302080
+  pub numerator-small : (cores n : ℕ) → cores ≤ 16 → Numerator t cores n → n ≤ 67107840
   numerator-small cores n c num =
       Or·elim le-prop (num .reached) (λ none. omega arith) (λ p. omega (arith, p .2, path-small cores (p .0) c (p .1 .linked)))
 

@@ -1,14 +1,12 @@
 // Taking the pieces one after the other, those ahead in priority first: walks may then go through the pieces taken.
-ghost use Prim.Native.Nat.{_+_, _≤_, _<_};
+ghost use Prim.Native.Nat.{_+_};
 ghost use mathlib.Core.Path.{_≡_};
-ghost use mathlib.Core.Bool.{true, _&&_};
-ghost use lib.Dec.{eqb};
-ghost use lib.ListN.{length};
+ghost use mathlib.Core.Bool.{true};
 ghost use Rattle.sets.specs.Levels.{ByKey};
-ghost use Rattle.theory.specs.Inner.{alone as aloneAt, twice as twiceAt, stepped, Best};
+ghost use Rattle.theory.specs.Inner.{alone as aloneAt, twice as twiceAt};
 ghost use Rattle.task.specs.Filing.{filedTask};
-ghost use Rattle.numerator.specs.Cells.{roomOf, Wrote, entry, Ready};
-ghost use Rattle.numerator.specs.Settings.{taskIn, rank, Ahead, Behind};
+ghost use Rattle.numerator.specs.Cells.{Ready};
+ghost use Rattle.numerator.specs.Settings.{taskIn, Piece, Behind, Room, through, RowThrough, AllThrough, HasBest, rank, Ahead};
 use crate::setting::Setting;
 use crate::totals::work;
 use sets::Levelled;
@@ -33,9 +31,9 @@ impl Setting {
     // interference set, and what meets both u and w but not v.
     fn twice(&self, own: u64, u: usize, v: usize, w: usize) -> u64
         requires own { ⌜ own ≡ aloneAt (taskIn (now self)) (now self .cores) v ⌝ }
-        requires u { ⌜ u < taskIn (now self) .pieces ⌝ }
-        requires v { ⌜ v < taskIn (now self) .pieces ⌝ }
-        requires w { ⌜ w < taskIn (now self) .pieces ⌝ }
+        requires u { ⌜ Piece (now self) u ⌝ }
+        requires v { ⌜ Piece (now self) v ⌝ }
+        requires w { ⌜ Piece (now self) w ⌝ }
         ensures { λ r. ⌜ r ≡ twiceAt (taskIn (now (self .entry))) (now (self .entry) .cores) u v w ⌝ }
     {
         let outer = self.interference[u] & self.interference[w] & !self.interference[v];
@@ -44,15 +42,15 @@ impl Setting {
 
     // The cell of the pair u, w once walks may go through v.
     fn joined(&self, scratch: &[u64], own: u64, u: usize, v: usize, w: usize) -> u64
-        requires room { ⌜ roomOf (taskIn (now self) .pieces) ≤ length (now scratch) ⌝ }
+        requires room { ⌜ Room (now self) (now scratch) ⌝ }
         requires own { ⌜ own ≡ aloneAt (taskIn (now self)) (now self .cores) v ⌝ }
-        requires u { ⌜ u < taskIn (now self) .pieces ⌝ }
-        requires v { ⌜ v < taskIn (now self) .pieces ⌝ }
-        requires w { ⌜ w < taskIn (now self) .pieces ⌝ }
+        requires u { ⌜ Piece (now self) u ⌝ }
+        requires v { ⌜ Piece (now self) v ⌝ }
+        requires w { ⌜ Piece (now self) w ⌝ }
         requires to { ⌜ taskIn (now self) .ancestor u v ≡ true ⌝ }
         requires on { ⌜ taskIn (now self) .ancestor v w ≡ true ⌝ }
         requires ready { ⌜ Ready (taskIn (now self)) (now scratch) v ⌝ }
-        ensures { λ r. ⌜ r ≡ stepped (taskIn (now (self .entry))) (now (self .entry) .cores) (entry (taskIn (now (self .entry))) (now (scratch .entry))) v u w ⌝ }
+        ensures { λ r. ⌜ r ≡ through (now (self .entry)) (now (scratch .entry)) v u w ⌝ }
     {
         let to = scratch[self.place(u, v)];
         let on = scratch[self.place(v, w)];
@@ -65,14 +63,14 @@ impl Setting {
 
     // Writes the cells of u with all that v leads to, once walks may go through v.
     fn eliminate_row(&self, scratch: &mut [u64], own: u64, behind: u64, u: usize, v: usize)
-        requires room { ⌜ roomOf (taskIn (now self) .pieces) ≤ length (now scratch) ⌝ }
+        requires room { ⌜ Room (now self) (now scratch) ⌝ }
         requires own { ⌜ own ≡ aloneAt (taskIn (now self)) (now self .cores) v ⌝ }
-        requires behind { ⌜ Behind (taskIn (now self)) v behind ⌝ }
-        requires u { ⌜ u < taskIn (now self) .pieces ⌝ }
-        requires v { ⌜ v < taskIn (now self) .pieces ⌝ }
+        requires behind { ⌜ Behind (now self) v behind ⌝ }
+        requires u { ⌜ Piece (now self) u ⌝ }
+        requires v { ⌜ Piece (now self) v ⌝ }
         requires to { ⌜ taskIn (now self) .ancestor u v ≡ true ⌝ }
         requires ready { ⌜ Ready (taskIn (now self)) (now scratch) v ⌝ }
-        ensures { λ _. ⌜ Wrote (taskIn (now (self .entry)) .pieces) (λ a b. eqb u a && taskIn (now (self .entry)) .ancestor v b) (stepped (taskIn (now (self .entry))) (now (self .entry) .cores) (entry (taskIn (now (self .entry))) (now (scratch .entry))) v) (now (scratch .entry)) (now (scratch .exit)) ⌝ }
+        ensures { λ _. ⌜ RowThrough (now (self .entry)) u v (now (scratch .entry)) (now (scratch .exit)) ⌝ }
     {
         if scratch[self.place(u, v)] == 0 {
             return;
@@ -85,10 +83,10 @@ impl Setting {
 
     // Writes the cells of all that leads to v with all that v leads to, once walks may go through v.
     fn eliminate(&self, scratch: &mut [u64], v: usize)
-        requires room { ⌜ roomOf (taskIn (now self) .pieces) ≤ length (now scratch) ⌝ }
-        requires v { ⌜ v < taskIn (now self) .pieces ⌝ }
+        requires room { ⌜ Room (now self) (now scratch) ⌝ }
+        requires v { ⌜ Piece (now self) v ⌝ }
         requires ready { ⌜ Ready (taskIn (now self)) (now scratch) v ⌝ }
-        ensures { λ _. ⌜ Wrote (taskIn (now (self .entry)) .pieces) (λ a b. taskIn (now (self .entry)) .ancestor a v && taskIn (now (self .entry)) .ancestor v b) (stepped (taskIn (now (self .entry))) (now (self .entry) .cores) (entry (taskIn (now (self .entry))) (now (scratch .entry))) v) (now (scratch .entry)) (now (scratch .exit)) ⌝ }
+        ensures { λ _. ⌜ AllThrough (now (self .entry)) v (now (scratch .entry)) (now (scratch .exit)) ⌝ }
     {
         let own = self.alone(v);
         let behind = self.task.descendants(v);
@@ -100,10 +98,10 @@ impl Setting {
 
     // Takes the pieces of one level, all that are ahead of them being taken.
     fn eliminate_level(&self, scratch: &mut [u64], levels: &Levelled, level: usize)
-        requires room { ⌜ roomOf (taskIn (now self) .pieces) ≤ length (now scratch) ⌝ }
+        requires room { ⌜ Room (now self) (now scratch) ⌝ }
         requires sorted { ⌜ ByKey (rank (taskIn (now self))) (taskIn (now self) .pieces) (now levels) ⌝ }
-        requires ahead { ⌜ Best (taskIn (now self)) (now self .cores) (Ahead (taskIn (now self)) level) (entry (taskIn (now self)) (now scratch)) ⌝ }
-        ensures { λ _. ⌜ Best (taskIn (now (self .entry))) (now (self .entry) .cores) (Ahead (taskIn (now (self .entry))) (level + 1)) (entry (taskIn (now (self .entry))) (now (scratch .exit))) ⌝ }
+        requires ahead { ⌜ HasBest (now self) (Ahead (taskIn (now self)) level) (now scratch) ⌝ }
+        ensures { λ _. ⌜ HasBest (now (self .entry)) (Ahead (taskIn (now (self .entry))) (level + 1)) (now (scratch .exit)) ⌝ }
     {
         let set = levels.at(level);
         for v in pieces_of(set) {
@@ -113,9 +111,9 @@ impl Setting {
 
     // Takes every piece: the scratch then has the largest numerator of all walks.
     pub(crate) fn eliminate_all(&self, scratch: &mut [u64])
-        requires room { ⌜ roomOf (taskIn (now self) .pieces) ≤ length (now scratch) ⌝ }
-        requires edges { ⌜ Best (taskIn (now self)) (now self .cores) (Ahead (taskIn (now self)) 0) (entry (taskIn (now self)) (now scratch)) ⌝ }
-        ensures { λ _. ⌜ Best (taskIn (now (self .entry))) (now (self .entry) .cores) (λ x. x < taskIn (now (self .entry)) .pieces) (entry (taskIn (now (self .entry))) (now (scratch .exit))) ⌝ }
+        requires room { ⌜ Room (now self) (now scratch) ⌝ }
+        requires edges { ⌜ HasBest (now self) (Ahead (taskIn (now self)) 0) (now scratch) ⌝ }
+        ensures { λ _. ⌜ HasBest (now (self .entry)) (Piece (now (self .entry))) (now (scratch .exit)) ⌝ }
     {
         let levels = by_rank(&self.task);
         for level in 0..65 {

@@ -1,10 +1,8 @@
 // The largest numerator of all walks and single pieces.
-ghost use Prim.Native.Nat.{_≤_, _<_};
-ghost use lib.ListN.{length};
 ghost use Rattle.sets.specs.Sets.{LargestWhere};
 ghost use Rattle.theory.specs.Inner.{Greatest};
-ghost use Rattle.numerator.specs.Cells.{roomOf, entry};
-ghost use Rattle.numerator.specs.Settings.{taskIn};
+ghost use Rattle.numerator.specs.Cells.{entry};
+ghost use Rattle.numerator.specs.Settings.{taskIn, Piece, Room};
 use crate::setting::Setting;
 use sets::PiecesIterator;
 use sets::pieces_of;
@@ -12,8 +10,8 @@ use sets::pieces_of;
 impl Setting {
     // The largest numerator of a walk that ends at w, and 0 where there is none.
     fn arriving(&self, scratch: &[u64], w: usize) -> u64
-        requires room { ⌜ roomOf (taskIn (now self) .pieces) ≤ length (now scratch) ⌝ }
-        requires w { ⌜ w < taskIn (now self) .pieces ⌝ }
+        requires room { ⌜ Room (now self) (now scratch) ⌝ }
+        requires w { ⌜ Piece (now self) w ⌝ }
         ensures { λ r. ⌜ LargestWhere (λ u. taskIn (now (self .entry)) .ancestor u w) (λ u. entry (taskIn (now (self .entry))) (now (scratch .entry)) u w) r ⌝ }
     {
         let before = self.task.ancestors(w);
@@ -26,7 +24,7 @@ impl Setting {
 
     // The largest numerator of a walk and of a piece alone.
     pub(crate) fn greatest(&self, scratch: &[u64]) -> u64
-        requires { ⌜ roomOf (taskIn (now self) .pieces) ≤ length (now scratch) ⌝ }
+        requires { ⌜ Room (now self) (now scratch) ⌝ }
         ensures { λ r. ⌜ Greatest (taskIn (now (self .entry))) (now (self .entry) .cores) (entry (taskIn (now (self .entry))) (now (scratch .entry))) r ⌝ }
     {
         let mut top = 0;

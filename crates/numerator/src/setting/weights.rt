@@ -1,8 +1,8 @@
 // Numerators of single pieces and of single edges.
-ghost use Prim.Native.Nat.{_≤_, _<_};
+ghost use Prim.Native.Nat.{_≤_};
 ghost use mathlib.Core.Path.{_≡_};
 ghost use Rattle.theory.specs.Inner.{alone as aloneAt, straight as straightAt};
-ghost use Rattle.numerator.specs.Settings.{taskIn};
+ghost use Rattle.numerator.specs.Settings.{taskIn, Piece};
 use crate::interfering::interference_table;
 use crate::setting::Setting;
 use crate::totals::work;
@@ -27,7 +27,7 @@ impl Setting {
 
     // The numerator of piece v alone.
     pub(crate) fn alone(&self, v: usize) -> u64
-        requires { ⌜ v < taskIn (now self) .pieces ⌝ }
+        requires { ⌜ Piece (now self) v ⌝ }
         ensures value { λ r. ⌜ r ≡ aloneAt (taskIn (now (self .entry))) (now (self .entry) .cores) v ⌝ }
         ensures small { λ r. ⌜ r ≤ 5242800 ⌝ }
     {
@@ -36,8 +36,8 @@ impl Setting {
 
     // The numerator of the edge from u to w, and 0 where there is none.
     pub(crate) fn straight(&self, u: usize, w: usize) -> u64
-        requires u { ⌜ u < taskIn (now self) .pieces ⌝ }
-        requires w { ⌜ w < taskIn (now self) .pieces ⌝ }
+        requires u { ⌜ Piece (now self) u ⌝ }
+        requires w { ⌜ Piece (now self) w ⌝ }
         ensures { λ r. ⌜ r ≡ straightAt (taskIn (now (self .entry))) (now (self .entry) .cores) u w ⌝ }
     {
         if !has(self.task.predecessors(w), u) {
