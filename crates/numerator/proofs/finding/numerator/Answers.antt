@@ -21,12 +21,12 @@ module _ (f g : Filed) (same : g ≡ f) (n room : ℕ) (is : n ≡ filedTask f .
   enough = subst (λ (m : ℕ). roomOf m ≤ room) (is ∙ ap (λ x. filedTask x .pieces) (sym same)) (omega (arith, room-in n))
 
 pub fill-requires : need.fill-requires
-fill-requires c κs = enough (c .args .task .now) (c .new-setting .result .task) (c .new-setting .ensures .task) (c .pieces-n .result) _ (c .pieces-n .ensures) (c .if-scratch-n .left)
+fill-requires c κs = enough (c .args .task .now) (c .new-setting .result .task) (c .new-setting .ensures .task) (c .pieces-n .result) (length (c .args .scratch .now)) (c .pieces-n .ensures) (omega arith)
 
 pub eliminate-all-requires : need.eliminate-all-requires
 eliminate-all-requires c κs =
     let s = c .new-setting .result in
-    let room = enough (c .args .task .now) (s .task) (c .new-setting .ensures .task) (c .pieces-n .result) _ (c .pieces-n .ensures) (c .if-scratch-n .left) in
+    let room = enough (c .args .task .now) (s .task) (c .new-setting .ensures .task) (c .pieces-n .result) (length (c .args .scratch .now)) (c .pieces-n .ensures) (omega arith) in
     record {
       room = omega (arith, room);
       edges = edges-best (filed-lawful (s .task)) (s .cores) (c .args .scratch .now) (c .fill .last .scratch) (Ahead (taskIn s) 0) (λ x a. omega (arith, a .1)) (c .fill .ensures);
@@ -34,7 +34,7 @@ eliminate-all-requires c κs =
 
 pub greatest-requires : need.greatest-requires
 greatest-requires c κs =
-    let room = enough (c .args .task .now) (c .new-setting .result .task) (c .new-setting .ensures .task) (c .pieces-n .result) _ (c .pieces-n .ensures) (c .if-scratch-n .left) in
+    let room = enough (c .args .task .now) (c .new-setting .result .task) (c .new-setting .ensures .task) (c .pieces-n .result) (length (c .args .scratch .now)) (c .pieces-n .ensures) (omega arith) in
     omega (arith, room)
 
 -- what the setting has is the task's
@@ -53,4 +53,4 @@ pub returns : need.returns
 returns c =
     let n = c .pieces-n .result in
     let room = length (c .args .scratch .now) in
-    ((omega arith, omega arith), subst (λ (m : ℕ). (m + 2) * (m + 2) ≤ room) (c .pieces-n .ensures) (c .if-scratch-n .left), found c)
+    ((omega arith, omega arith), subst (λ (m : ℕ). (m + 2) * (m + 2) ≤ room) (c .pieces-n .ensures) (omega arith), found c)
