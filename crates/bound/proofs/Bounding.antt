@@ -8,7 +8,7 @@ use Rattle.std.proofs.shelf.Tests.{cases-lt}
 use Rattle.theory.specs.Tasks.{Task, Lawful}
 use Rattle.theory.specs.Paths.{Numerator, volume}
 use Rattle.theory.specs.Listing.{bound}
-use Rattle.theory.proofs.Largest.{largest-once, is-numerator, is-chain}
+use Rattle.theory.proofs.Largest.{largest-once, is-numerator, is-chain, bound-is-the-largest}
 use Rattle.theory.proofs.Between.{bound-between}
 use Rattle.theory.proofs.Sustained.{bound-is-sustainable}
 use Rattle.numerator.specs.Finding.{CoresFit}
@@ -30,6 +30,7 @@ module _ {t : Task} (law : Lawful t) where
         not-below = omega (arith, between .0, d .named);
         not-above = omega (arith, between .1, d .named, ap (λ x. (volume t - x) / cores) long, ap (λ x. (x - b .chain) / cores) (d .volume));
         sustained = λ s more e laws easier l many other. omega (arith, bound-is-sustainable s t more cores laws law easier (fits .0) l, d .named, other .named);
+        largest = bound-is-the-largest t cores law;
       }
 
 -- a share of so much at most, of 1 or more, is small

@@ -17,6 +17,7 @@ use Rattle.sets.proofs.Tables.{zeros}
 use Rattle.sets.proofs.Members.{set-true}
 use Rattle.sets.proofs.Iterating.{passed, Within, passed-none, passed-more, passed-all}
 use Rattle.sets.proofs.Bests.{largest-same}
+use Rattle.sets.proofs.Levelling.{by-key-at}
 use Rattle.theory.specs.Tasks.{Task, above, Lawful}
 use Rattle.theory.specs.Paths.{Remaining}
 use Rattle.theory.proofs.Ancestors.{fewer-above, above-few}
@@ -81,7 +82,7 @@ deeper d l = grind (arith)
 -- a loop over the pieces of a level, of which the rest is to come
 module _ {t : Task} (law : Lawful t) (levels : Levelled) (sorted : ByKey (above t) (t .pieces) levels) (level set : ℕ) (same : set ≡ levelOf levels level) where
   at : SetOf (t .pieces) (λ j. eqb (above t j) level) set
-  at j = ap (λ s. member s j) same ∙ sorted level j
+  at = by-key-at (above t) (t .pieces) level set levels sorted same
 
   -- known are the deeper pieces, and those of the level that were passed
   abbrev reached : ℕ → ℕ → Bool

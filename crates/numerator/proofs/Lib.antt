@@ -1,5 +1,6 @@
 -- Lemmas on the numerator, by topic.
 pub mod Adding
+pub mod Meeting
 pub mod Weighing
 pub mod Placing
 pub mod Lines

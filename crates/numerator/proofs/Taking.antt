@@ -12,6 +12,7 @@ use Rattle.sets.specs.Levels.{levelOf, ByKey}
 use Rattle.sets.specs.declared.levels.Levelled.{Levelled}
 use Rattle.sets.proofs.Members.{member-zero, set-true, true-set}
 use Rattle.sets.proofs.Iterating.{Within}
+use Rattle.sets.proofs.Levelling.{by-key-at}
 use Rattle.theory.specs.Tasks.{Task, Lawful}
 use Rattle.theory.specs.Inner.{Best, stepped}
 use Rattle.theory.proofs.Eliminating.{eliminated, best-same}
@@ -27,7 +28,7 @@ Taken t level rest x = (x < t .pieces) × ((rank t x < level) ⊎ ((rank t x ≡
 
 module _ {t : Task} (law : Lawful t) (cores : ℕ) (levels : Levelled) (sorted : ByKey (rank t) (t .pieces) levels) (level set : ℕ) (same : set ≡ levelOf levels level) where
   at : SetOf (t .pieces) (λ j. eqb (rank t j) level) set
-  at j = ap (λ s. member s j) same ∙ sorted level j
+  at = by-key-at (rank t) (t .pieces) level set levels sorted same
 
   -- before the first only those ahead are taken
   pub taking-start : (M : ℕ → ℕ → ℕ) (rest : ℕ) → rest ≡ set → Best t cores (Ahead t level) M → Best t cores (Taken t level rest) M

@@ -1,30 +1,20 @@
 // Interference sets: for each piece the pieces parallel to it whose priority is not after its own.
 ghost use Prim.Native.Nat.{_<_};
-ghost use mathlib.Core.Path.{_≡_};
 ghost use Rattle.sets.specs.Sets.{SetOf};
 ghost use Rattle.theory.specs.Paths.{parallel as parallelAt, interferes as interferesAt};
 ghost use Rattle.task.specs.Filing.{filedTask};
 ghost use Rattle.numerator.specs.Tables.{Tabled};
-use sets::has;
+use sets::first;
 use sets::with;
 use task::stages::Filed;
 
-// Whether the pieces differ, and neither is an ancestor of the other.
-fn parallel(task: &Filed, a: usize, b: usize) -> bool
-    requires a { ⌜ a < filedTask (now task) .pieces ⌝ }
-    requires b { ⌜ b < filedTask (now task) .pieces ⌝ }
-    ensures { λ r. ⌜ r ≡ parallelAt (filedTask (now (task .entry))) a b ⌝ }
+// The pieces parallel to piece v: all but v itself, its ancestors and its descendants.
+fn parallel(task: &Filed, v: usize) -> u64
+    requires { ⌜ v < filedTask (now task) .pieces ⌝ }
+    ensures { λ r. ⌜ SetOf (filedTask (now (task .entry)) .pieces) (λ x. parallelAt (filedTask (now (task .entry))) x v) r ⌝ }
 {
-    (a != b) & (!has(task.ancestors(b), a) & !has(task.ancestors(a), b))
-}
-
-// Whether piece x is in the interference set of piece v.
-fn interferes(task: &Filed, v: usize, x: usize) -> bool
-    requires v { ⌜ v < filedTask (now task) .pieces ⌝ }
-    requires x { ⌜ x < filedTask (now task) .pieces ⌝ }
-    ensures { λ r. ⌜ r ≡ interferesAt (filedTask (now (task .entry))) v x ⌝ }
-{
-    parallel(task, x, v) & has(task.not_after(v), x)
+    let related = with(task.ancestors(v) | task.descendants(v), v, true);
+    first(task.pieces()) & !related
 }
 
 // The interference set of piece v.
@@ -32,11 +22,7 @@ fn interference(task: &Filed, v: usize) -> u64
     requires { ⌜ v < filedTask (now task) .pieces ⌝ }
     ensures { λ r. ⌜ SetOf (filedTask (now (task .entry)) .pieces) (interferesAt (filedTask (now (task .entry))) v) r ⌝ }
 {
-    let mut set = 0;
-    for x in 0..task.pieces() {
-        set = with(set, x, interferes(task, v, x));
-    }
-    set
+    parallel(task, v) & task.not_after(v)
 }
 
 // The interference sets of all pieces.

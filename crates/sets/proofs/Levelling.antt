@@ -3,12 +3,16 @@ use Prim.Native.Nat.{ℕ, _+_}
 use mathlib.Core.Path.{_≡_, sym, ap, _∙_}
 use mathlib.Core.Bool.{false, _&&_, _||_, and-comm}
 use lib.Dec.{eqb}
-use Rattle.sets.specs.Sets.{member}
+use Rattle.sets.specs.Sets.{member, SetOf}
 use Rattle.sets.specs.Levels.{levelOf, ByKey}
 use Rattle.sets.specs.declared.levels.Levelled.{Levelled}
 use Rattle.sets.proofs.Members.{member-zero, set-none, set-more}
 
 module _ (key : ℕ → ℕ) where
+  -- the set of a level, however it is written
+  pub by-key-at : (n level set : ℕ) (levels : Levelled) → ByKey key n levels → set ≡ levelOf levels level → SetOf n (λ j. eqb (key j) level) set
+  by-key-at n level set levels sorted same j = ap (λ s. member s j) same ∙ sorted level j
+
   pub by-key-none : (levels : Levelled) → ((l j : ℕ) → member (levelOf levels l) j ≡ false) → ByKey key 0 levels
   by-key-none levels none l j = none l j ∙ sym (member-zero j) ∙ set-none (λ k. eqb (key k) l) j
 

@@ -27,17 +27,17 @@ worst-is f k r l e = e ∙ cond-true (ltb k (filedTask f .pieces)) (filedTask f 
 abbrev pub edgesBelow : Filed → ℕ → ℕ
 edgesBelow f i = sum i (λ b. count (filedTask f .pieces) (λ a. filedTask f .edge a b))
 
+-- past the task nothing stands in a relation between pieces
+pub past-none : (n : ℕ) (R : ℕ → ℕ → Bool) → ((a b : ℕ) → R a b ≡ true → (a < n) × (b < n)) → (b a : ℕ) → n ≤ a → cond {A = ℕ} (R a b) 1 0 ≡ 0
+past-none n R ends b a l = ⊎-elim (λ e. let on = ends a b e in absurd (omega arith)) (λ e. ap (λ x. cond {A = ℕ} x 1 0) e) (cases-bool (R a b))
+
 module _ (f : Filed) where
   abbrev t : Task
   t = filedTask f
 
-  -- past the task there is no predecessor
-  outside : (b a : ℕ) → t .pieces ≤ a → cond {A = ℕ} (t .edge a b) 1 0 ≡ 0
-  outside b a l = ⊎-elim (λ e. let on = filed-lawful f .ends a b e in absurd (omega arith)) (λ e. ap (λ x. cond {A = ℕ} x 1 0) e) (cases-bool (t .edge a b))
-
   size-here : (b : ℕ) → sizeOf (getD (f .tables .predecessors) b 0) ≡ count (t .pieces) (λ a. t .edge a b)
   unfolding sizeOf
-  size-here b = sum-cut 64 (t .pieces) (λ a. cond (t .edge a b) 1 0) (f .tables .few) (outside b)
+  size-here b = sum-cut 64 (t .pieces) (λ a. cond (t .edge a b) 1 0) (f .tables .few) (past-none (t .pieces) (t .edge) (filed-lawful f .ends) b)
 
   few-here : (b : ℕ) → count (t .pieces) (λ a. t .edge a b) ≤ t .pieces * 1
   few-here b = sum-small (t .pieces) 1 (λ a. cond (t .edge a b) 1 0) (λ a _. cond-both (t .edge a b) 1 0 (λ x. x ≤ 1) (λ _. omega arith) (λ _. omega arith))

@@ -41,7 +41,7 @@ record Inside (t : Task) (E : ℕ → Type 0) (u w x : ℕ) : Type 0 where
 
 module _ {t : Task} (law : Lawful t) where
   -- a walk leads to its end
-  pub via-ancestor : (E : ℕ → Type 0) (u : ℕ) (l : List ℕ) (w : ℕ) → Via t E u l w → t .ancestor u w ≡ true
+  via-ancestor : (E : ℕ → Type 0) (u : ℕ) (l : List ℕ) (w : ℕ) → Via t E u l w → t .ancestor u w ≡ true
   via-ancestor E u [] w v = ancestor-one law u w v
   via-ancestor E u (x ∷ l) w v = ancestor-join law u x w (ancestor-one law u x (v .0)) (via-ancestor E x l w (v .2))
 
