@@ -1,4 +1,4 @@
-// Edges: the worked example, each refusal in its order, and ancestors through several edges.
+// Edges: the worked example, each refusal in its order, and ancestors and descendants through several edges.
 use example::worked::worked_example;
 use std::test::*;
 use task::refusals::EdgeRefusal;
@@ -74,7 +74,10 @@ fn edges_are_refused_in_order() -> Result<(), Fail> {
         task.predecessors(4) == 0b1
             && task.predecessors(0) == 0b1000
             && task.ancestors(0) == 0b1010,
-    )
+    )?;
+    // 1 leads to 3, 3 to 0, 0 to 4 and 5, and 5 to 2; past the task nothing leads anywhere
+    check(task.successors(0) == 0b110000 && task.descendants(1) == 0b111101)?;
+    check(task.successors(2) == 0 && task.descendants(5) == 0b100 && task.descendants(64) == 0)
 }
 
 #[test]
