@@ -1,4 +1,6 @@
 // Chains: the greatest lengths of paths, from each piece on and over the whole task.
+#![tactic(auto)]
+
 ghost use Rattle.std.specs.Prelude.{◌+◌, slice_index};
 ghost use Rattle.sets.specs.Sets.{member, LargestWhere};
 ghost use Rattle.sets.specs.Levels.{ByKey};

@@ -1,4 +1,6 @@
 // The numerator of a filed task on a number of cores: the largest over all complete paths, found in polynomial time.
+#![tactic(auto)]
+
 mod finding;
 mod interfering;
 mod refusals;

@@ -1,5 +1,7 @@
 // Sets of pieces as masks: bit k of a set, worth 2 to the power k, stands for piece k, 0 to 63.
 // A number above 63 is no piece: it is in no set, and adding or removing it changes nothing.
+#![tactic(auto)]
+
 ghost use Rattle.std.specs.Prelude.{◌≡◌, ℕ, ◌<◌, ◌≤◌, not, ◌&&◌, ◌||◌, ◌==◌, nat_lt};
 ghost use Rattle.sets.specs.Sets.{member, size_of, SetOf};
 

@@ -1,4 +1,6 @@
 // Files the worked example and prints what was filed, piece by piece.
+#![tactic(auto)]
+
 use example::worked::{PRIORITIES, worked_example};
 use sets::has;
 use std::{fmt, io};

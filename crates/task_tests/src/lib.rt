@@ -1,4 +1,6 @@
 // Filing, executed: the worked example, each refusal, and both ends of every limit.
+#![tactic(auto)]
+
 pub mod deadlines;
 #[cfg(test)]
 mod edges;

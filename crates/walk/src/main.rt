@@ -1,4 +1,6 @@
 // Holds the bound against a walk over every complete path, on tasks drawn from a seed, and prints the first difference if any.
+#![tactic(auto)]
+
 mod comparing;
 mod drawing;
 mod draws;
