@@ -33,7 +33,7 @@ BY_HAND = {
 }
 
 DECLARED = re.compile(r"(?:^\s*(?:abbrev |unfoldable )?(?:pub )?|[({]|\blet )(?P<name>[^\s:(){}\[\],;.λ→]+)\s+[:=](?:\s|$)")
-WORD = re.compile(r"(?:(?<![\w'])(?:c|goal)\.)?[^\s(){}\[\],;.⟨⟩\"`|]+")  # what a goal is called is the toolchain's to name
+WORD = re.compile(r"(?:(?<![\w'])(?:c|goal)\.)?[^\s(){}\[\],;:.⟨⟩\"`|]+")  # what a goal is called is the toolchain's to name
 
 
 def files():

@@ -7,7 +7,7 @@ ghost use Rattle.task.specs.Bands.{in_order};
 // A kind of priority: any two compare, and what is not after one that is not after a third is not after the third.
 // Two are equal if each is not after the other; one is ahead of the other if it is not after it, and not equal.
 pub trait Priority {
-    ghost notAfter: { Self → Self → Bool };
+    ghost not_after: { Self → Self → Bool };
 
     // Whether this priority is not after the other.
     fn not_after(&self, other: &Self) -> bool

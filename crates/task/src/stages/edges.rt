@@ -40,7 +40,7 @@ fn reached(ancestors: &[u64; 64], before: usize, after: usize) -> [u64; 64]
 fn not_after_set<P: Priority>(priorities: &[P], k: usize) -> u64
     requires k { k < length priorities.now }
     requires few { length priorities.now ≤ 64 }
-    ensures { (p : P) → SetOf (length priorities.now) (λ x. not_after (slice_index_or priorities.now x p) (slice_index_or priorities.now k p)) result }
+    ensures { (p : P) → SetOf (length priorities.now) (λ x. P.not_after (slice_index_or priorities.now x p) (slice_index_or priorities.now k p)) result }
 {
     let mut set = 0;
     for x in 0..priorities.len() {
@@ -52,7 +52,7 @@ fn not_after_set<P: Priority>(priorities: &[P], k: usize) -> u64
 // For each piece the pieces whose priorities are not after its own.
 fn ranking<P: Priority>(priorities: &[P]) -> [u64; 64]
     requires { length priorities.now ≤ 64 }
-    ensures sets { (p : P) → Columns (length priorities.now) (λ x y. not_after (slice_index_or priorities.now x p) (slice_index_or priorities.now y p)) (length priorities.now) result }
+    ensures sets { (p : P) → Columns (length priorities.now) (λ x y. P.not_after (slice_index_or priorities.now x p) (slice_index_or priorities.now y p)) (length priorities.now) result }
     ensures rest { EmptyFrom (length priorities.now) result }
 {
     let mut table = [0; 64];
@@ -95,7 +95,7 @@ impl Linking {
 
     // Ranks the pieces by a priority for each, in place of any earlier ranking.
     pub fn rank<P: Priority>(&mut self, priorities: &[P]) -> Result<(), RankingRefusal>
-        ensures { RankSays not_after self.old priorities.now result self.new }
+        ensures { RankSays P.not_after self.old priorities.now result self.new }
     {
         if priorities.len() != self.tables.pieces {
             return Err(RankingRefusal::Count);
