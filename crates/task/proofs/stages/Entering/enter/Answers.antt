@@ -4,16 +4,15 @@ use Rattle.std.proofs.lemmas.List.{take_more_set}
 use Rattle.sets.proofs.Tables.{set_below}
 use Rattle.task.proofs.stages.Entering.enter.Goals as goal
 
-pub invariant-of-self : goal.invariant-of-self
-invariant-of-self c =
+pub invariant_of-self : goal.invariant_of-self
+invariant_of-self c =
     let e = c.args.self.now in
-    let room : e.count < length e.worst = omega arith in (
-      omega arith,
-      (
-        set_below (λ _ n. 1 ≤ n) e.worst e.count c.args.worst room e.least (omega arith),
-        (set_below (λ _ n. n ≤ 65535) e.worst e.count c.args.worst room e.most (omega arith), tt),
-      ),
-    )
+    let room : e.count < length e.worst = omega arith in
+    record {
+      few = omega arith;
+      least = set_below (λ _ n. 1 ≤ n) e.worst e.count c.args.worst room e.least (omega arith);
+      most = set_below (λ _ n. n ≤ 65535) e.worst e.count c.args.worst room e.most (omega arith);
+    }
 
 pub returns : goal.returns
 returns c =

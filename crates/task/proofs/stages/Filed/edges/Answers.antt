@@ -8,8 +8,8 @@ pub loop-k-preserved : goal.loop-k-preserved
 loop-k-preserved c =
     ap (λ (n : ℕ). n + c.size-edges.result) c.loop-k.invariant ∙ sym (edges_more c.args.self.now c.loop-k.k c.size-edges.result c.size-edges.ensures)
 
-pub overflow-add-edges : goal.overflow-add-edges
-overflow-add-edges c =
+pub overflow_add-edges : goal.overflow_add-edges
+overflow_add-edges c =
     let f = c.args.self.now in
     let k = c.loop-k.k in
     let old : c.loop-k.edges ≡ edges_below f k = c.loop-k.invariant in

@@ -18,8 +18,8 @@ returns-then-before-after c =
     ] in
     ((omega arith, omega arith), sym c.if-has.ensures, around, refl)
 
-pub add-edge-requires : goal.add-edge-requires
-add-edge-requires c = record {
+pub add_edge-requires : goal.add_edge-requires
+add_edge-requires c = record {
   ends = (omega arith, omega arith);
   free = no_circle (lawful_of c.args.self.now.tables.lawful) c.args.before c.args.after c.if-before-after.false (sym c.if-has-2.ensures);
 }
@@ -29,5 +29,5 @@ returns c = (
   (omega arith, omega arith),
   sym c.if-has.ensures,
   no_circle (lawful_of c.args.self.now.tables.lawful) c.args.before c.args.after c.if-before-after.false (sym c.if-has-2.ensures),
-  c.add-edge.ensures,
+  c.add_edge.ensures,
 )

@@ -15,8 +15,8 @@ loop-x-preserved g c p =
     let k = c.args.k in
     let here = get_or_read ps x c.index-priorities-x.result c.loop-x-test.true c.index-priorities-x.is p in
     let there = get_or_read ps k c.index-priorities-k.result c.requires.k c.index-priorities-k.is p in
-    set_more x c.loop-x.set c.with-set.result (λ y. g.P.Priority.not_after (get_or ps y p) (get_or ps k p)) c.not-after.result (c.loop-x.invariant p)
-    (◌∙◌ {b = g.P.Priority.not_after c.index-priorities-x.result c.index-priorities-k.result} c.not-after.ensures (ap₂ g.P.Priority.not_after here there))
+    set_more x c.loop-x.set c.with-set.result (λ y. g.P.Priority.not_after (get_or ps y p) (get_or ps k p)) c.not_after.result (c.loop-x.invariant p)
+    (◌∙◌ {b = g.P.Priority.not_after c.index-priorities-x.result c.index-priorities-k.result} c.not_after.ensures (ap₂ g.P.Priority.not_after here there))
     (c.with-set.ensures.added (omega arith))
 
 pub returns : goal.returns

@@ -14,7 +14,7 @@ pub loop-k-preserved : goal.loop-k-preserved
 loop-k-preserved g c =
     let ps = c.args.priorities.now in
     let l = c.loop-k in
-    let r = c.not-after-set in (
+    let r = c.not_after_set in (
       kept_length l.table l.k r.result 64 l.invariant.0,
       λ p. columns_more (length ps) (λ x y. g.P.Priority.not_after (get_or ps x p) (get_or ps y p)) l.table l.k r.result (omega (arith, l.invariant.0)) (l.invariant.1 p) (r.ensures p),
       empty_more l.table l.k r.result l.invariant.2,
