@@ -13,6 +13,6 @@ returns c =
     let f = c.args.task.now in
     let n = (filed_task f).pieces in
     let lengths : ℕ → ℕ = λ k. get_or c.remaining-lengths.result k 0 in
-    chain_from (filed_lawful f) lengths c.longest-of.result c.remaining-lengths.ensures.on_task
-    (largest_same (member c.first.result) (λ k. ltb k n) lengths c.longest-of.result
-    (λ k. below_both k 64 n (omega (arith, (filed_lawful f).few)) ∙ ap (λ (m : ℕ). ltb k 64 && ltb k m) (sym c.pieces.ensures) ∙ sym (c.first.ensures k)) c.longest-of.ensures)
+    chain_from (filed_lawful f) lengths c.longest_of.result c.remaining-lengths.ensures.on_task
+    (largest_same (member c.first.result) (λ k. ltb k n) lengths c.longest_of.result
+    (λ k. below_both k 64 n (omega (arith, (filed_lawful f).few)) ∙ ap (λ (m : ℕ). ltb k 64 && ltb k m) (sym c.pieces.ensures) ∙ sym (c.first.ensures k)) c.longest_of.ensures)

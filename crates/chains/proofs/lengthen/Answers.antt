@@ -7,20 +7,20 @@ use Rattle.chains.proofs.lengthen.Goals as goal
 
 pub loop-v-init : goal.loop-v-init
 loop-v-init c =
-    let start : c.into-iter-v-iterator.result.rest ≡ c.at-set.result = ap (λ p. p.rest) c.into-iter-v-iterator.ensures.into-iter-gives ∙ c.pieces-of-v-items.ensures in (
+    let start : c.into_iter-v-iterator.result.rest ≡ c.at-set.result = ap (λ p. p.rest) c.into_iter-v-iterator.ensures.into_iter_gives ∙ c.pieces_of-v-items.ensures in (
       within_none c.at-set.result _ start,
       level_start (filed_lawful c.args.task.now) c.args.levels.now c.requires.sorted c.args.level c.at-set.result c.at-set.ensures _ c.args.lengths.now start
           c.requires.deeper,
     )
 
-pub overflow-add-lengths : goal.overflow-add-lengths
-overflow-add-lengths c =
+pub overflow_add-lengths : goal.overflow_add-lengths
+overflow_add-lengths c =
     let taken = c.in-Some.ensures.steps in
     omega (
       arith,
       level_fits (filed_lawful c.args.task.now) c.args.levels.now c.requires.sorted c.args.level c.at-set.result c.at-set.ensures
           c.loop-v.v-iterator.rest c.next.new.self.rest c.in-Some.v c.loop-v.invariant.0 taken.1.0 taken.2 c.loop-v.lengths c.loop-v.invariant.1
-          c.successors.result c.longest-of.result c.worst.result c.longest-of.ensures c.worst.ensures,
+          c.successors.result c.longest_of.result c.worst.result c.longest_of.ensures c.worst.ensures,
     )
 
 pub loop-v-preserved : goal.loop-v-preserved
@@ -31,7 +31,7 @@ loop-v-preserved c =
       within_more c.at-set.result rest next c.in-Some.v c.loop-v.invariant.0 taken.1.0 taken.2,
       level_turn (filed_lawful c.args.task.now) c.args.levels.now c.requires.sorted c.args.level c.at-set.result c.at-set.ensures
           rest next c.in-Some.v c.loop-v.invariant.0 taken.1.0 taken.2 c.loop-v.lengths c.loop-v.invariant.1
-          c.successors.result c.longest-of.result c.worst.result c.longest-of.ensures c.worst.ensures (omega arith) c.successors.ensures,
+          c.successors.result c.longest_of.result c.worst.result c.longest_of.ensures c.worst.ensures (omega arith) c.successors.ensures,
     )
 
 pub returns : goal.returns

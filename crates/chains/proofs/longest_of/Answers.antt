@@ -7,7 +7,7 @@ use Rattle.chains.proofs.longest_of.Goals as goal
 
 pub loop-k-init : goal.loop-k-init
 loop-k-init c =
-    let start : c.into-iter-k-iterator.result.rest ≡ c.args.set = ap (λ p. p.rest) c.into-iter-k-iterator.ensures.into-iter-gives ∙ c.pieces-of-k-items.ensures in
+    let start : c.into_iter-k-iterator.result.rest ≡ c.args.set = ap (λ p. p.rest) c.into_iter-k-iterator.ensures.into_iter_gives ∙ c.pieces_of-k-items.ensures in
     (within_none c.args.set _ start, largest_none _ _ (passed_none c.args.set _ start))
 
 pub loop-k-preserved : goal.loop-k-preserved

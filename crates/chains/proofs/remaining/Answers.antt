@@ -13,7 +13,7 @@ pub lengthen-requires : goal.lengthen-requires
 lengthen-requires c =
     let t = filed_task c.args.task.now in
     let back : c.loop-level.level - 1 + 1 ≡ c.loop-level.level = omega arith in
-    record { sorted = c.by-depth-levels.ensures; deeper = subst (λ (l : ℕ). Known t (deep t l) c.loop-level.lengths) (sym back) c.loop-level.invariant }
+    record { sorted = c.by_depth-levels.ensures; deeper = subst (λ (l : ℕ). Known t (deep t l) c.loop-level.lengths) (sym back) c.loop-level.invariant }
 
 pub returns : goal.returns
 returns c =
