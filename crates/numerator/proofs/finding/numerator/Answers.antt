@@ -20,8 +20,8 @@ module _ (f g : Filed) (same : g ≡ f) (n room : ℕ) (is : n ≡ (filed_task f
 pub fill-requires : goal.fill-requires
 fill-requires c = enough c.args.task.now c.new-setting.result.task c.new-setting.ensures.task c.pieces-n.result (length c.args.scratch.now) c.pieces-n.ensures (omega arith)
 
-pub eliminate-all-requires : goal.eliminate-all-requires
-eliminate-all-requires c =
+pub eliminate_all-requires : goal.eliminate_all-requires
+eliminate_all-requires c =
     let s = c.new-setting.result in
     let room = enough c.args.task.now s.task c.new-setting.ensures.task c.pieces-n.result (length c.args.scratch.now) c.pieces-n.ensures (omega arith) in
     record {
@@ -39,12 +39,12 @@ found : (c : goal.After-greatest) → Numerator (filed_task c.args.task.now) c.a
 found c =
     let s = c.new-setting.result in
     let t = task_in s in
-    let here = concluded (filed_lawful s.task) (λ x. x < t.pieces) (λ x l. l) s.cores (entry t c.eliminate-all.new.scratch) c.eliminate-all.ensures c.greatest.result c.greatest.ensures in
+    let here = concluded (filed_lawful s.task) (λ x. x < t.pieces) (λ x l. l) s.cores (entry t c.eliminate_all.new.scratch) c.eliminate_all.ensures c.greatest.result c.greatest.ensures in
     subst (λ f. Numerator (filed_task f) c.args.cores c.greatest.result) c.new-setting.ensures.task
     (subst (λ (n : ℕ). Numerator t n c.greatest.result) c.new-setting.ensures.cores here)
 
-pub overflow-cast-result : goal.overflow-cast-result
-overflow-cast-result c = omega (arith, numerator_small (filed_lawful c.args.task.now) c.args.cores c.greatest.result (omega arith) (found c))
+pub overflow_cast-result : goal.overflow_cast-result
+overflow_cast-result c = omega (arith, numerator_small (filed_lawful c.args.task.now) c.args.cores c.greatest.result (omega arith) (found c))
 
 pub returns : goal.returns
 returns c =

@@ -4,4 +4,4 @@ use Rattle.numerator.proofs.Meeting.{interference_set}
 use Rattle.numerator.proofs.interfering.interference.Goals as goal
 
 pub returns : goal.returns
-returns c = interference_set (filed_task c.args.task.now) c.args.v c.requires c.parallel.result c.not-after.result c.parallel.ensures c.not-after.ensures
+returns c = interference_set (filed_task c.args.task.now) c.args.v c.requires c.parallel.result c.not_after.result c.parallel.ensures c.not_after.ensures

@@ -9,7 +9,7 @@ use Rattle.numerator.proofs.totals.work.Goals as goal
 
 pub loop-k-init : goal.loop-k-init
 loop-k-init c =
-    let start : c.into-iter-k-iterator.result.rest ≡ c.args.set = ap (λ p. p.rest) c.into-iter-k-iterator.ensures.into-iter-gives ∙ c.pieces-of-k-items.ensures in
+    let start : c.into_iter-k-iterator.result.rest ≡ c.args.set = ap (λ p. p.rest) c.into_iter-k-iterator.ensures.into_iter_gives ∙ c.pieces_of-k-items.ensures in
     omega (arith, ap (λ (s : ℕ). sum_over s (time (filed_task c.args.task.now))) start)
 
 -- what the piece adds is taken from what is to come
@@ -21,8 +21,8 @@ step c =
     sum_over_without c.loop-k.k-iterator.rest c.next.new.self.rest c.in-Some.k (time (filed_task c.args.task.now)) taken.0 taken.1.0 taken.2
     ∙ ap (λ (n : ℕ). next + n) (sym c.worst.ensures)
 
-pub overflow-add-total : goal.overflow-add-total
-overflow-add-total c = omega (arith, step c, c.loop-k.invariant, over_small (filed_lawful c.args.task.now) c.args.set)
+pub overflow_add-total : goal.overflow_add-total
+overflow_add-total c = omega (arith, step c, c.loop-k.invariant, over_small (filed_lawful c.args.task.now) c.args.set)
 
 pub loop-k-preserved : goal.loop-k-preserved
 loop-k-preserved c = omega (arith, step c, c.loop-k.invariant)

@@ -10,7 +10,7 @@ use Rattle.numerator.proofs.setting.Setting.arriving.Goals as goal
 
 pub loop-u-init : goal.loop-u-init
 loop-u-init c =
-    let start : c.into-iter-u-iterator.result.rest ≡ c.ancestors-before.result = ap (λ p. p.rest) c.into-iter-u-iterator.ensures.into-iter-gives ∙ c.pieces-of-u-items.ensures in
+    let start : c.into_iter-u-iterator.result.rest ≡ c.ancestors-before.result = ap (λ p. p.rest) c.into_iter-u-iterator.ensures.into_iter_gives ∙ c.pieces_of-u-items.ensures in
     (within_none c.ancestors-before.result _ start, largest_none _ _ (passed_none c.ancestors-before.result _ start))
 
 pub place-requires : goal.place-requires

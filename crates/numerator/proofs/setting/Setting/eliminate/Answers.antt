@@ -14,14 +14,14 @@ loop-u-init c =
     let s = c.args.self.now in
     let t = task_in s in
     let before = c.ancestors-before.result in
-    let start : c.into-iter-u-iterator.result.rest ≡ before = ap (λ p. p.rest) c.into-iter-u-iterator.ensures.into-iter-gives ∙ c.pieces-of-u-items.ensures in (
+    let start : c.into_iter-u-iterator.result.rest ≡ before = ap (λ p. p.rest) c.into_iter-u-iterator.ensures.into_iter_gives ∙ c.pieces_of-u-items.ensures in (
       within_none before _ start,
-      wrote_none t.pieces (stepped t s.cores (entry t c.args.scratch.now) c.args.v) (λ a b. passed before c.into-iter-u-iterator.result.rest a && t.ancestor c.args.v b)
+      wrote_none t.pieces (stepped t s.cores (entry t c.args.scratch.now) c.args.v) (λ a b. passed before c.into_iter-u-iterator.result.rest a && t.ancestor c.args.v b)
           c.args.scratch.now (λ a b _ _. ap (λ x. x && t.ancestor c.args.v b) (passed_none before _ start a)),
     )
 
-pub eliminate-row-requires : goal.eliminate-row-requires
-eliminate-row-requires c =
+pub eliminate_row-requires : goal.eliminate_row-requires
+eliminate_row-requires c =
     let s = c.args.self.now in
     let t = task_in s in
     let law = filed_lawful s.task in
@@ -51,8 +51,8 @@ loop-u-preserved c =
     let u = ancestor_in law c.args.v before c.in-Some.u c.requires.v c.ancestors-before.ensures.set (c.loop-u.invariant.0 c.in-Some.u taken.1.0) in (
       within_more before rest next c.in-Some.u c.loop-u.invariant.0 taken.1.0 taken.2,
       rows_turn law s.cores c.args.v c.requires.v before (related_at t t.ancestor c.args.v before c.requires.v c.ancestors-before.ensures.set)
-          c.args.scratch.now c.loop-u.scratch rest c.loop-u.invariant.1 next c.in-Some.u c.eliminate-row.new.scratch u.1 c.loop-u.invariant.0 taken.1.0 taken.2
-          c.eliminate-row.ensures,
+          c.args.scratch.now c.loop-u.scratch rest c.loop-u.invariant.1 next c.in-Some.u c.eliminate_row.new.scratch u.1 c.loop-u.invariant.0 taken.1.0 taken.2
+          c.eliminate_row.ensures,
     )
 
 pub returns : goal.returns

@@ -10,7 +10,7 @@ use Rattle.numerator.proofs.setting.Setting.eliminate_level.Goals as goal
 pub loop-v-init : goal.loop-v-init
 loop-v-init c =
     let s = c.args.self.now in
-    let start : c.into-iter-v-iterator.result.rest ≡ c.at-set.result = ap (λ p. p.rest) c.into-iter-v-iterator.ensures.into-iter-gives ∙ c.pieces-of-v-items.ensures in (
+    let start : c.into_iter-v-iterator.result.rest ≡ c.at-set.result = ap (λ p. p.rest) c.into_iter-v-iterator.ensures.into_iter_gives ∙ c.pieces_of-v-items.ensures in (
       within_none c.at-set.result _ start,
       taking_start (filed_lawful s.task) s.cores c.args.levels.now c.requires.sorted c.args.level c.at-set.result c.at-set.ensures (entry (task_in s) c.args.scratch.now) _ start
           c.requires.ahead,

@@ -19,7 +19,7 @@ pub loop-w-init : goal.loop-w-init
 loop-w-init c =
     let s = c.args.self.now in
     let t = task_in s in
-    let start : c.into-iter-w-iterator.result.rest ≡ c.args.behind = ap (λ p. p.rest) c.into-iter-w-iterator.ensures.into-iter-gives ∙ c.pieces-of-w-items.ensures in (
+    let start : c.into_iter-w-iterator.result.rest ≡ c.args.behind = ap (λ p. p.rest) c.into_iter-w-iterator.ensures.into_iter_gives ∙ c.pieces_of-w-items.ensures in (
       within_none c.args.behind _ start,
       line_start t.pieces (stepped t s.cores (entry t c.args.scratch.now) c.args.v) (λ a b. eqb c.args.u a) (λ a b. b) c.args.behind _ c.args.scratch.now start,
     )
@@ -32,7 +32,7 @@ joined-value-requires c =
     let w = behind_piece law c.args.v c.args.behind c.requires.behind c.in-Some.w (c.loop-w.invariant.0 c.in-Some.w here) in
     record {
       room = omega arith;
-      own = c.requires.own_val;
+      own = c.requires.own;
       u = c.requires.u;
       v = c.requires.v;
       w = w.1;

@@ -20,7 +20,7 @@ loop-w-preserved c =
     let t = task_in s in
     let w = c.loop-w.w in
     wrote_join t.pieces (straight t s.cores) (λ a b. ltb b w && t.ancestor a b) (λ a b. eqb w b && t.ancestor a b) (λ a b. ltb b (w + 1) && t.ancestor a b) (straight t s.cores)
-    c.args.scratch.now c.loop-w.scratch c.fill-column.new.scratch c.loop-w.invariant c.fill-column.ensures (λ a b _ _ _. refl)
+    c.args.scratch.now c.loop-w.scratch c.fill_column.new.scratch c.loop-w.invariant c.fill_column.ensures (λ a b _ _ _. refl)
     (λ a b _ _. up_to b w (t.ancestor a b))
 
 pub returns : goal.returns

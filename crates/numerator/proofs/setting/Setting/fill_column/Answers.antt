@@ -13,7 +13,7 @@ use Rattle.numerator.proofs.setting.Setting.fill_column.Goals as goal
 pub loop-u-init : goal.loop-u-init
 loop-u-init c =
     let s = c.args.self.now in
-    let start : c.into-iter-u-iterator.result.rest ≡ c.ancestors-before.result = ap (λ p. p.rest) c.into-iter-u-iterator.ensures.into-iter-gives ∙ c.pieces-of-u-items.ensures in (
+    let start : c.into_iter-u-iterator.result.rest ≡ c.ancestors-before.result = ap (λ p. p.rest) c.into_iter-u-iterator.ensures.into_iter_gives ∙ c.pieces_of-u-items.ensures in (
       within_none c.ancestors-before.result _ start,
       line_start (task_in s).pieces (straight (task_in s) s.cores) (λ a b. eqb c.args.w b) (λ a b. a) c.ancestors-before.result _ c.args.scratch.now start,
     )

@@ -12,8 +12,8 @@ returns-then-to-eq0 c =
     c.place.result c.place-2.result c.place-3.result c.place.ensures.value c.place-2.ensures.value c.place-3.ensures.value
     (⊎_elim (λ e. inl e) (λ e. inr e.1) c.then-to-eq0.either)
 
-pub overflow-add-to : goal.overflow-add-to
-overflow-add-to c =
+pub overflow_add-to : goal.overflow_add-to
+overflow_add-to c =
     let t = task_in c.args.self.now in
     let m = c.args.scratch.now in
     omega (
@@ -30,7 +30,7 @@ returns c =
     let m = c.args.scratch.now in
     let sum = get_or m c.place.result 0 + get_or m c.place-2.result 0 in
     c.max.ensures
-    ∙ ap (λ (x : ℕ). max (get_or m c.place-3.result 0) x) (c.saturating-sub.ensures ∙ ap (λ (x : ℕ). sum - x) c.twice.ensures)
+    ∙ ap (λ (x : ℕ). max (get_or m c.place-3.result 0) x) (c.saturating_sub.ensures ∙ ap (λ (x : ℕ). sum - x) c.twice.ensures)
     ∙ cells_join (filed_lawful s.task) s.cores c.args.scratch.now c.args.u c.args.v c.args.w c.requires.to c.requires.on
     c.place.result c.place-2.result c.place-3.result c.place.ensures.value c.place-2.ensures.value c.place-3.ensures.value
     c.if-to-eq0.false c.if-on-eq0.false

@@ -14,11 +14,11 @@ small c =
     let many : c.pieces.result ≤ 64 = omega arith in
     mul-le c.args.u c.pieces.result 64 64 low many
 
-pub overflow-mul-result : goal.overflow-mul-result
-overflow-mul-result c = omega (arith, small c)
+pub overflow_mul-result : goal.overflow_mul-result
+overflow_mul-result c = omega (arith, small c)
 
-pub overflow-add-result : goal.overflow-add-result
-overflow-add-result c = omega (arith, small c, (filed_lawful c.args.self.now.task).few)
+pub overflow_add-result : goal.overflow_add-result
+overflow_add-result c = omega (arith, small c, (filed_lawful c.args.self.now.task).few)
 
 pub returns : goal.returns
 unfolding place_of

@@ -8,8 +8,8 @@ use Rattle.numerator.specs.Settings.{task_in}
 use Rattle.numerator.proofs.Weighing.{volume_straight}
 use Rattle.numerator.proofs.setting.Setting.straight.Goals as goal
 
-pub overflow-add-result-2 : goal.overflow-add-result-2
-overflow-add-result-2 c =
+pub overflow_add-result-2 : goal.overflow_add-result-2
+overflow_add-result-2 c =
     let s = c.args.self.now in
     let first = ap (λ (n : ℕ). s.cores * n) (worst_is s.task c.args.u c.worst.result c.requires.u c.worst.ensures) in
     let second = ap (λ (n : ℕ). s.cores * n) (worst_is s.task c.args.w c.worst-2.result c.requires.w c.worst-2.ensures) in

@@ -7,13 +7,13 @@ use Rattle.numerator.specs.Settings.{task_in}
 use Rattle.numerator.proofs.Weighing.{volume_shared}
 use Rattle.numerator.proofs.setting.Setting.twice.Goals as goal
 
-pub overflow-add-result : goal.overflow-add-result
-overflow-add-result c =
+pub overflow_add-result : goal.overflow_add-result
+overflow_add-result c =
     let s = c.args.self.now in
     omega (
       arith,
       c.work.ensures.small,
-      c.requires.own_val,
+      c.requires.own,
       product_small (filed_lawful s.task) s.cores c.args.v s.most c.requires.v,
       volume_small (filed_lawful s.task) (interferes (task_in s) c.args.v),
     )
@@ -25,7 +25,7 @@ returns c =
     let fits_v : get_or s.interference c.args.v 0 < 2 ^ 64 = omega arith in
     omega (
       arith,
-      c.requires.own_val,
+      c.requires.own,
       c.work.ensures.value,
       volume_shared (task_in s) s.interference s.tabled c.args.u c.args.v c.args.w c.requires.u c.requires.v c.requires.w fits_u fits_v,
     )

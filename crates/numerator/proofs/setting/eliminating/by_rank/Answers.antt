@@ -16,7 +16,7 @@ loop-v-preserved c =
     let f = c.args.task.now in
     let v = c.loop-v.v in
     let on_task : v < (filed_task f).pieces = omega arith in
-    let level : c.size.result ≡ rank (filed_task f) v = c.size.ensures ∙ rank_size (filed_task f) v c.not-after.result on_task c.not-after.ensures in
+    let level : c.size.result ≡ rank (filed_task f) v = c.size.ensures ∙ rank_size (filed_task f) v c.not_after.result on_task c.not_after.ensures in
     by_key_more (rank (filed_task f)) v c.size.result c.loop-v.levels c.put.new.self level c.loop-v.invariant
     (c.put.ensures.there (omega (arith, rank_few (filed_task f) v)) (omega (arith, (filed_lawful f).few)))
 
