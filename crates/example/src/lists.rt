@@ -79,7 +79,7 @@ fn link_all(linking: &mut Linking, edges: &[Edge]) -> Result<(), EdgeRefusal>
 
 // Files the task of these worst times, edges and priorities; the first call of filing that is refused refuses it.
 pub fn file<P: Priority>(worst: &[u32], edges: &[Edge], priorities: &[P]) -> Result<Filed, Refusal>
-    ensures { FileSays not_after worst.now edges.now priorities.now result }
+    ensures { FileSays P.not_after worst.now edges.now priorities.now result }
 {
     let mut linking = enter_all(worst)?.close();
     link_all(&mut linking, edges)?;

@@ -9,17 +9,17 @@ use Rattle.example.proofs.lists.enter_all.Goals as goal
 pub loop-w-preserved : goal.loop-w-preserved
 loop-w-preserved c =
     entered_more c.args.worst.now (entered c.loop-w.entering) (entered c.enter.new.self) c.loop-w.w-index c.loop-w-test.true c.loop-w.invariant
-    c.in-ok-enter.ensures.3
+    c.in_ok-enter.ensures.3
 
-pub returns-in-err-enter : goal.returns-in-err-enter
-returns-in-err-enter c =
+pub returns-in_err-enter : goal.returns-in_err-enter
+returns-in_err-enter c =
     let ws = c.args.worst.now in
     let i = c.loop-w.w-index in
     let a = c.loop-w.entering in
     let w = get_or ws i 0 in
-    let e = c.in-err-enter.field-0.0 in
-    let said = c.in-err-enter.ensures in
-    let p = err_from_is_err_and c.from-residual.result c.from-residual.ensures.1 in
+    let e = c.in_err-enter.field-0.0 in
+    let said = c.in_err-enter.ensures in
+    let p = err_from_is_err_and c.from_residual.result c.from_residual.ensures.1 in
     rw (p.1, p.2) (
       take i ws,
       w,

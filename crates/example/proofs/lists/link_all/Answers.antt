@@ -12,19 +12,19 @@ loop-edge-init c = joined_none (linking_task c.args.linking.now)
 
 pub loop-edge-preserved : goal.loop-edge-preserved
 loop-edge-preserved c =
-    joined_more c.args.edges.now c.loop-edge.edge_index (0, 0) c.loop-edge-test.true c.loop-edge.invariant c.in-ok-link.ensures.3
+    joined_more c.args.edges.now c.loop-edge.edge-index (0, 0) c.loop-edge-test.true c.loop-edge.invariant c.in_ok-link.ensures.3
 
-pub returns-in-err-link : goal.returns-in-err-link
-returns-in-err-link c =
+pub returns-in_err-link : goal.returns-in_err-link
+returns-in_err-link c =
     let edges = c.args.edges.now in
-    let i = c.loop-edge.edge_index in
+    let i = c.loop-edge.edge-index in
     let l = c.loop-edge.linking in
     let m = c.link.new.self in
     let edge = get_or edges i (0, 0) in
-    let e = c.in-err-link.field-0.0 in
-    let said = c.in-err-link.ensures in
+    let e = c.in_err-link.field-0.0 in
+    let said = c.in_err-link.ensures in
     let same = link_kept l m edge.0 edge.1 e said in
-    let p = err_from_is_err_and c.from-residual.result c.from-residual.ensures.1 in
+    let p = err_from_is_err_and c.from_residual.result c.from_residual.ensures.1 in
     rw (p.1, p.2) (
       take i edges,
       edge,
@@ -37,4 +37,4 @@ returns-in-err-link c =
 pub returns : goal.returns
 returns c =
     subst (λ front. Joined (linking_task c.args.linking.now) front (linking_task c.loop-edge.linking))
-    (take_all c.loop-edge.edge_index c.args.edges.now c.loop-edge-test.false) c.loop-edge.invariant
+    (take_all c.loop-edge.edge-index c.args.edges.now c.loop-edge-test.false) c.loop-edge.invariant
