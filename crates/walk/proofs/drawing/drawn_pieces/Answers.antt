@@ -5,7 +5,7 @@ use Rattle.walk.proofs.drawing.drawn_pieces.Goals as goal
 
 pub loop-preserved : goal.loop-preserved
 loop-preserved c =
-    omega (arith, c.loop.invariant, ap length c.in-ok-enter.ensures.3, length-append (entered c.loop.entering) (c.drawn-worst.result ∷ []))
+    omega (arith, c.loop.invariant, ap length c.in_ok-enter.ensures.3, length-append (entered c.loop.entering) (c.drawn_worst.result ∷ []))
 
 pub returns : goal.returns
 returns c = omega (arith, c.loop.invariant)

@@ -10,8 +10,8 @@ fewer t c =
     fewer_behind c.args.task.now c.args.path.last c.loop-v.v c.onward.result.last c.predecessors.result c.predecessors.ensures
     c.if-has.ensures c.onward.ensures.last
 
-pub walk-on-requires : goal.walk-on-requires
-walk-on-requires t c = (
+pub walk_on-requires : goal.walk_on-requires
+walk_on-requires t c = (
   omega (arith, fewer t c, c.decreases),
   (omega (arith, fewer t c, c.requires.length, c.onward.ensures.length), c.loop-v.invariant),
 )

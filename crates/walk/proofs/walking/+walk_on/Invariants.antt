@@ -4,8 +4,8 @@ use Rattle.theory.specs.Tasks.{below}
 use Rattle.task.specs.Filing.{filed_task}
 use Rattle.walk.proofs.walking.+walk_on.Given as goal
 
-abbrev pub decreases-walk-on : goal.decreases-walk-on
-decreases-walk-on l = below (filed_task l.task.now) l.path.last
+abbrev pub decreases-walk_on : goal.decreases-walk_on
+decreases-walk_on l = below (filed_task l.task.now) l.path.last
 
 abbrev pub invariant-loop-v : goal.invariant-loop-v
 invariant-loop-v l = l.walked.chain ≤ 4194240
