@@ -4,4 +4,4 @@ pub mod Fresh
 pub mod Ticking
 pub mod Holdings
 pub mod Timing
-pub mod Scripts
+pub mod ScriptLemmas

@@ -4,24 +4,24 @@ use Rattle.theory.proofs.Platforms.{sound_of, room}
 use Rattle.platform.proofs.Holdings.{ends_also, held_works, held_sound}
 use Rattle.platform.proofs.held.Holding.work.Goals as goal
 
-pub one-more-requires : goal.one-more-requires
-one-more-requires c k h =
+pub one_more-requires : goal.one_more-requires
+one_more-requires c k h =
     let b = c.args.self.now in
     omega (arith, room (sound_of b.sound) c.args.set k (sym (c.running-runs.ensures k) ∙ h), b.most k)
 
-pub invariant-of-self-2 : goal.invariant-of-self-2
-invariant-of-self-2 c =
+pub invariant_of-self-2 : goal.invariant_of-self-2
+invariant_of-self-2 c =
     let b = c.args.self.now in
-    let sound = held_sound b.worst b.ran b.ended c.args.set c.args.early c.running-runs.result c.one-short.result c.one-more.result
-    c.running-runs.ensures c.one-short.ensures c.one-more.ensures (sound_of b.sound) in
-    (b.most, (b.holds, (∣ sound ∣₁, tt)))
+    let sound = held_sound b.worst b.ran b.ended c.args.set c.args.early c.running-runs.result c.one_short.result c.one_more.result
+    c.running-runs.ensures c.one_short.ensures c.one_more.ensures (sound_of b.sound) in
+    record { most = b.most; holds = b.holds; sound = ∣ sound ∣₁ }
 
 pub returns : goal.returns
 returns c =
     let b = c.args.self.now in
     record {
-      works = held_works b.worst b.ran b.ended c.args.set c.args.early c.running-runs.result c.one-short.result c.one-more.result
-          c.running-runs.ensures c.one-short.ensures c.one-more.ensures;
-      also = ends_also b.worst b.ran b.ended c.args.set c.args.early c.running-runs.result c.one-short.result c.one-more.result
-          c.running-runs.ensures c.one-short.ensures c.one-more.ensures;
+      works = held_works b.worst b.ran b.ended c.args.set c.args.early c.running-runs.result c.one_short.result c.one_more.result
+          c.running-runs.ensures c.one_short.ensures c.one_more.ensures;
+      also = ends_also b.worst b.ran b.ended c.args.set c.args.early c.running-runs.result c.one_short.result c.one_more.result
+          c.running-runs.ensures c.one_short.ensures c.one_more.ensures;
     }

@@ -7,11 +7,11 @@ use Rattle.platform.proofs.held.working.one_more.Goals as goal
 
 pub loop-k-init : goal.loop-k-init
 loop-k-init c =
-    let start : c.into-iter-k-iterator.result.rest ≡ c.args.set = ap (λ p. p.rest) c.into-iter-k-iterator.ensures.into-iter-gives ∙ c.pieces-of-k-items.ensures in
+    let start : c.into_iter-k-iterator.result.rest ≡ c.args.set = ap (λ p. p.rest) c.into_iter-k-iterator.ensures.into_iter_gives ∙ c.pieces_of-k-items.ensures in
     (within_none c.args.set _ start, omega arith, ticked_none c.args.ran c.args.set _ start)
 
-pub overflow-add-more : goal.overflow-add-more
-overflow-add-more c =
+pub overflow_add-more : goal.overflow_add-more
+overflow_add-more c =
     let taken = c.in-Some.ensures.steps in
     let k = c.in-Some.k in
     let rest = c.loop-k.k-iterator.rest in

@@ -1,5 +1,5 @@
 -- Past the end there is nothing to take, and nothing is left.
-use Rattle.platform.proofs.Scripts.{nothing_left}
+use Rattle.platform.proofs.ScriptLemmas.{nothing_left}
 use Rattle.platform.proofs.scripts.RefSliceU64Script.next_set.Goals as goal
 
 pub returns-in-None : goal.returns-in-None

@@ -8,23 +8,22 @@ use Rattle.platform.proofs.timed.TimedPlatform.fill.Goals as goal
 pub loop-k-init : goal.loop-k-init
 loop-k-init c = (λ j l. absurd (omega arith), copied_none _, copied_none _)
 
-pub returns-in-err-judge : goal.returns-in-err-judge
-returns-in-err-judge c =
-    let p = err_from_is_err_and c.from-residual.result c.from-residual.ensures.1 in
-    rw (p.1, p.2) (fill_refused c.args.self.now c.args.rows.now c.loop-k.k c.in-err-judge.field-0.0 (omega arith) c.loop-k-test.true c.loop-k.invariant.0 c.in-err-judge.ensures)
+pub returns-in_err-judge : goal.returns-in_err-judge
+returns-in_err-judge c =
+    let p = err_from_is_err_and c.from_residual.result c.from_residual.ensures.1 in
+    rw (p.1, p.2) (fill_refused c.args.self.now c.args.rows.now c.loop-k.k c.in_err-judge.field-0.0 (omega arith) c.loop-k-test.true c.loop-k.invariant.0 c.in_err-judge.ensures)
 
-pub invariant-of-self : goal.invariant-of-self
-invariant-of-self c =
+pub invariant_of-self : goal.invariant_of-self
+invariant_of-self c =
     let l = c.loop-k in
     let f = c.fresh in
     let rows = c.args.rows.now in
-    let end : l.k ≡ length rows = omega arith in (
-      fresh_fits rows l.k end l.invariant.0 l.worst l.times l.invariant.1 l.invariant.2 f.result f.ensures.worst f.ensures.fresh f.ensures.ended,
-      (
-        fresh_within rows l.k end l.invariant.0 l.worst l.times l.invariant.1 l.invariant.2 f.result f.ensures.worst f.ensures.fresh f.ensures.ended,
-        (fresh_on_time rows l.k end l.invariant.0 l.worst l.times l.invariant.1 l.invariant.2 f.result f.ensures.worst f.ensures.fresh f.ensures.ended, tt),
-      ),
-    )
+    let end : l.k ≡ length rows = omega arith in
+    record {
+      fits = fresh_fits rows l.k end l.invariant.0 l.worst l.times l.invariant.1 l.invariant.2 f.result f.ensures.worst f.ensures.fresh f.ensures.ended;
+      within = fresh_within rows l.k end l.invariant.0 l.worst l.times l.invariant.1 l.invariant.2 f.result f.ensures.worst f.ensures.fresh f.ensures.ended;
+      on_time = fresh_on_time rows l.k end l.invariant.0 l.worst l.times l.invariant.1 l.invariant.2 f.result f.ensures.worst f.ensures.fresh f.ensures.ended;
+    }
 
 pub returns : goal.returns
 returns c =
