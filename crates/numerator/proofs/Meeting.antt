@@ -39,6 +39,6 @@ module _ (t : Task) (v : ℕ) (on_task : v < t.pieces) where
   -- those of them that are not after v
   pub interference_set : (beside ahead : ℕ) → SetOf t.pieces (λ x. parallel t x v) beside → Related t t.not_after v ahead
       → SetOf t.pieces (interferes t v) (bit_and beside ahead)
-  interference_set beside ahead is-beside is-ahead x =
-      member-and beside ahead x ∙ ap₂ ◌&&◌ (is-beside x) (related_at t t.not_after v ahead on_task is-ahead x)
+  interference_set beside ahead is_beside is_ahead x =
+      member-and beside ahead x ∙ ap₂ ◌&&◌ (is_beside x) (related_at t t.not_after v ahead on_task is_ahead x)
       ∙ and_assoc (ltb x t.pieces) (parallel t x v) (t.not_after x v)

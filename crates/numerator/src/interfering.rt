@@ -1,7 +1,7 @@
 // Interference sets: for each piece the pieces parallel to it whose priority is not after its own.
 ghost use Rattle.std.specs.Prelude.{◌<◌};
 ghost use Rattle.sets.specs.Sets.{SetOf};
-ghost use Rattle.theory.specs.Paths.{parallel as parallelAt, interferes as interferesAt};
+ghost use Rattle.theory.specs.Paths.{parallel as parallel_at, interferes as interferes_at};
 ghost use Rattle.task.specs.Filing.{filed_task};
 ghost use Rattle.numerator.specs.Tables.{Tabled};
 
@@ -11,7 +11,7 @@ use task::stages::Filed;
 // The pieces parallel to piece v: all but v itself, its ancestors and its descendants.
 fn parallel(task: &Filed, v: usize) -> u64
     requires { v < (filed_task task.now).pieces }
-    ensures { SetOf (filed_task task.now).pieces (λ x. parallelAt (filed_task task.now) x v) result }
+    ensures { SetOf (filed_task task.now).pieces (λ x. parallel_at (filed_task task.now) x v) result }
 {
     let related = with(task.ancestors(v) | task.descendants(v), v, true);
     first(task.pieces()) & !related
@@ -20,7 +20,7 @@ fn parallel(task: &Filed, v: usize) -> u64
 // The interference set of piece v.
 fn interference(task: &Filed, v: usize) -> u64
     requires { v < (filed_task task.now).pieces }
-    ensures { SetOf (filed_task task.now).pieces (interferesAt (filed_task task.now) v) result }
+    ensures { SetOf (filed_task task.now).pieces (interferes_at (filed_task task.now) v) result }
 {
     parallel(task, v) & task.not_after(v)
 }

@@ -1,7 +1,7 @@
 // The worst times of a set of pieces, added up.
 ghost use Rattle.std.specs.Prelude.{◌≡◌, ◌≤◌};
 ghost use Rattle.sets.specs.Sets.{member};
-ghost use Rattle.theory.specs.Paths.{volume_of, volume as volumeIn};
+ghost use Rattle.theory.specs.Paths.{volume_of, volume as volume_in};
 ghost use Rattle.task.specs.Filing.{filed_task};
 
 use sets::{first, pieces_of};
@@ -21,7 +21,7 @@ pub(crate) fn work(task: &Filed, set: u64) -> u64
 
 // The worst times of all pieces, added up.
 pub fn volume(task: &Filed) -> u64
-    ensures value { result ≡ volumeIn (filed_task task.now) }
+    ensures value { result ≡ volume_in (filed_task task.now) }
     ensures small { result ≤ 4194240 }
 {
     work(task, first(task.pieces()))

@@ -1,7 +1,7 @@
 // Who interferes with a piece, straight from what the task says of two pieces.
 ghost use Rattle.std.specs.Prelude.{◌≡◌, ◌<◌, ◌≤◌, if◌then◌else◌};
 ghost use Rattle.sets.specs.Sets.{member, SetOf};
-ghost use Rattle.theory.specs.Paths.{interferes as interferesAt, volume_of};
+ghost use Rattle.theory.specs.Paths.{interferes as interferes_at, volume_of};
 ghost use Rattle.task.specs.Filing.{filed_task};
 
 use sets::{has, with};
@@ -11,7 +11,7 @@ use task::stages::Filed;
 fn interferes(task: &Filed, v: usize, x: usize) -> bool
     requires v { v < (filed_task task.now).pieces }
     requires x { x < (filed_task task.now).pieces }
-    ensures { result ≡ interferesAt (filed_task task.now) v x }
+    ensures { result ≡ interferes_at (filed_task task.now) v x }
 {
     let related = (x == v) | has(task.ancestors(v), x) | has(task.ancestors(x), v);
     !related & has(task.not_after(v), x)
@@ -20,7 +20,7 @@ fn interferes(task: &Filed, v: usize, x: usize) -> bool
 // The pieces that interfere with piece v.
 pub(crate) fn interfering(task: &Filed, v: usize) -> u64
     requires { v < (filed_task task.now).pieces }
-    ensures { SetOf (filed_task task.now).pieces (interferesAt (filed_task task.now) v) result }
+    ensures { SetOf (filed_task task.now).pieces (interferes_at (filed_task task.now) v) result }
 {
     let mut set = 0;
     for x in 0..task.pieces() {

@@ -1,7 +1,7 @@
 // Taking the pieces one after the other, those ahead in priority first: walks may then go through the pieces taken.
 ghost use Rattle.std.specs.Prelude.{◌≡◌, ◌+◌, true};
 ghost use Rattle.sets.specs.Levels.{ByKey};
-ghost use Rattle.theory.specs.Inner.{alone as aloneAt, twice as twiceAt};
+ghost use Rattle.theory.specs.Inner.{alone as alone_at, twice as twice_at};
 ghost use Rattle.task.specs.Filing.{filed_task};
 ghost use Rattle.numerator.specs.Cells.{Ready};
 ghost use Rattle.numerator.specs.Settings.{task_in, Piece, Behind, Room, through, RowThrough, AllThrough, HasBest, rank, Ahead};
@@ -26,11 +26,11 @@ impl Setting {
     // What a walk from u to v and a walk from v to w both count, where own is the numerator of v alone: v itself with its
     // interference set, and what meets both u and w but not v.
     fn twice(&self, own: u64, u: usize, v: usize, w: usize) -> u64
-        requires own { own ≡ aloneAt (task_in self.now) self.now.cores v }
+        requires own { own ≡ alone_at (task_in self.now) self.now.cores v }
         requires u { Piece self.now u }
         requires v { Piece self.now v }
         requires w { Piece self.now w }
-        ensures { result ≡ twiceAt (task_in self.now) self.now.cores u v w }
+        ensures { result ≡ twice_at (task_in self.now) self.now.cores u v w }
     {
         let outer = self.interference[u] & self.interference[w] & !self.interference[v];
         own + work(&self.task, outer)
@@ -39,7 +39,7 @@ impl Setting {
     // The cell of the pair u, w once walks may go through v.
     fn joined(&self, scratch: &[u64], own: u64, u: usize, v: usize, w: usize) -> u64
         requires room { Room self.now scratch.now }
-        requires own { own ≡ aloneAt (task_in self.now) self.now.cores v }
+        requires own { own ≡ alone_at (task_in self.now) self.now.cores v }
         requires u { Piece self.now u }
         requires v { Piece self.now v }
         requires w { Piece self.now w }
@@ -60,7 +60,7 @@ impl Setting {
     // Writes the cells of u with all that v leads to, once walks may go through v.
     fn eliminate_row(&self, scratch: &mut [u64], own: u64, behind: u64, u: usize, v: usize)
         requires room { Room self.now scratch.old }
-        requires own { own ≡ aloneAt (task_in self.now) self.now.cores v }
+        requires own { own ≡ alone_at (task_in self.now) self.now.cores v }
         requires behind { Behind self.now v behind }
         requires u { Piece self.now u }
         requires v { Piece self.now v }

@@ -1,6 +1,6 @@
 // Numerators of single pieces and of single edges.
 ghost use Rattle.std.specs.Prelude.{◌≡◌, ◌≤◌};
-ghost use Rattle.theory.specs.Inner.{alone as aloneAt, straight as straightAt};
+ghost use Rattle.theory.specs.Inner.{alone as alone_at, straight as straight_at};
 ghost use Rattle.numerator.specs.Settings.{task_in, Piece};
 
 use crate::interfering::interference_table;
@@ -28,7 +28,7 @@ impl Setting {
     // The numerator of piece v alone.
     pub(crate) fn alone(&self, v: usize) -> u64
         requires { Piece self.now v }
-        ensures value { result ≡ aloneAt (task_in self.now) self.now.cores v }
+        ensures value { result ≡ alone_at (task_in self.now) self.now.cores v }
         ensures small { result ≤ 5242800 }
     {
         self.cores * (self.task.worst(v) as u64) + work(&self.task, self.interference[v])
@@ -38,7 +38,7 @@ impl Setting {
     pub(crate) fn straight(&self, u: usize, w: usize) -> u64
         requires u { Piece self.now u }
         requires w { Piece self.now w }
-        ensures { result ≡ straightAt (task_in self.now) self.now.cores u w }
+        ensures { result ≡ straight_at (task_in self.now) self.now.cores u w }
     {
         if !has(self.task.predecessors(w), u) {
             return 0;
