@@ -1,7 +1,7 @@
 -- What is held of the pieces, and how they work. Assumes nothing.
 use Rattle.std.specs.Prelude.{◌≡◌, ℕ, ◌+◌, ◌&&◌, ◌||◌, ◌==◌}
 use Rattle.sets.specs.Sets.{member}
-use Rattle.theory.specs.Platforms.{Platform, runs, Works}
+use Rattle.theory.specs.Platforms.{Platform, runs}
 use Rattle.platform.specs.Tables.{platform_from}
 use Rattle.platform.specs.declared.held.Holding.{Holding}
 

@@ -1,4 +1,4 @@
-// Platforms: what works the pieces of a task tick by tick. The trait says by a meaning what every platform is; two that we ship end their pieces at true times or by a script.
+// Platforms: what works the pieces of a task tick by tick. The trait says by a meaning what every platform is; the one that we ship ends its pieces at true times.
 #![tactic(auto)]
 
 mod held;

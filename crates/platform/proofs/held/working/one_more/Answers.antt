@@ -1,5 +1,5 @@
 -- Each turn gives one more piece of the set its tick.
-use Rattle.std.proofs.Common.{◌≡◌, ◌<◌, length, get_or, ap, ◌∙◌, arith}
+use Rattle.std.proofs.Common.{◌≡◌, ◌<◌, length, ap, ◌∙◌, arith}
 use Rattle.sets.proofs.Tables.{kept_length}
 use Rattle.sets.proofs.Iterating.{within_none, within_more}
 use Rattle.platform.proofs.Ticking.{ticked_none, ticked_here, ticked_more, ticked_all}
