@@ -9,7 +9,7 @@ use numerator::{BoundRefusal, numerator, volume};
 use task::stages::Filed;
 
 // What a task is bounded by on a number of cores.
-#[derive(Clone, Copy, Debug)]
+#[derive(Clone, Copy, Debug, PartialEq, Eq)]
 pub struct Bound {
     // The largest numerator of a complete path.
     pub numerator: u32,

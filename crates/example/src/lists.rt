@@ -12,7 +12,7 @@ use task::stages::{Entering, Filed, Linking};
 pub struct Edge(pub usize, pub usize);
 
 // Which call of filing was refused, and why.
-#[derive(Clone, Copy)]
+#[derive(Clone, Copy, Debug, PartialEq, Eq)]
 pub enum Refusal {
     Piece(PieceRefusal),
     Link(EdgeRefusal),

@@ -3,7 +3,7 @@ ghost use Rattle.std.specs.Prelude.{◌≡◌};
 ghost use Rattle.numerator.specs.Refusals.{bound_number};
 
 // Why a task is not bounded.
-#[derive(Clone, Copy, Debug)]
+#[derive(Clone, Copy, Debug, PartialEq, Eq)]
 pub enum BoundRefusal {
     // The number of cores is outside 1 to 16.
     Cores = 31,

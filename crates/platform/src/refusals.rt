@@ -3,7 +3,7 @@ ghost use Rattle.std.specs.Prelude.{◌≡◌};
 ghost use Rattle.platform.specs.Refusals.{timed_number, scripted_number};
 
 // Why a platform of true times is not filled.
-#[derive(Clone, Copy, Debug)]
+#[derive(Clone, Copy, Debug, PartialEq, Eq)]
 pub enum TimedRefusal {
     // There are over 64 rows.
     TooMany = 51,
@@ -14,7 +14,7 @@ pub enum TimedRefusal {
 }
 
 // Why a platform with a script is not filled.
-#[derive(Clone, Copy, Debug)]
+#[derive(Clone, Copy, Debug, PartialEq, Eq)]
 pub enum ScriptedRefusal {
     // There are over 64 worst times.
     TooMany = 51,

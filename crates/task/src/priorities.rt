@@ -19,7 +19,7 @@ pub trait Priority {
 }
 
 // A number: the smaller is ahead.
-#[derive(Clone, Copy)]
+#[derive(Clone, Copy, PartialEq, Eq, PartialOrd, Ord)]
 pub struct Plain(pub u8);
 
 impl Priority for Plain {
@@ -35,7 +35,7 @@ impl Priority for Plain {
 }
 
 // The bands there are, from the one ahead to the one behind.
-#[derive(Clone, Copy)]
+#[derive(Clone, Copy, PartialEq, Eq, PartialOrd, Ord)]
 pub enum Band {
     Zero,
     One,
@@ -44,7 +44,7 @@ pub enum Band {
 }
 
 // A number within a band: the smaller band is ahead, and within a band the smaller number.
-#[derive(Clone, Copy)]
+#[derive(Clone, Copy, PartialEq, Eq, PartialOrd, Ord)]
 pub struct Banded {
     pub band: Band,
     pub number: u8,
@@ -58,8 +58,6 @@ impl Priority for Banded {
     ghost transitive = { λ a b c x y. in_order (place a.band) (place b.band) (place c.band) a.number b.number c.number x y };
 
     fn not_after(&self, other: &Banded) -> bool {
-        let a = self.band as u8;
-        let b = other.band as u8;
-        (a < b) | ((a == b) & (self.number <= other.number))
+        self <= other
     }
 }

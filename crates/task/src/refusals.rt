@@ -3,7 +3,7 @@ ghost use Rattle.std.specs.Prelude.{◌≡◌};
 ghost use Rattle.task.specs.Refusals.{piece_number, edge_number, ranking_number};
 
 // Why a piece is not entered.
-#[derive(Clone, Copy, Debug)]
+#[derive(Clone, Copy, Debug, PartialEq, Eq)]
 pub enum PieceRefusal {
     // There are 64 pieces already.
     Full = 11,
@@ -12,7 +12,7 @@ pub enum PieceRefusal {
 }
 
 // Why an edge is not entered.
-#[derive(Clone, Copy, Debug)]
+#[derive(Clone, Copy, Debug, PartialEq, Eq)]
 pub enum EdgeRefusal {
     // An end is not on the task.
     OffTask = 21,
@@ -23,7 +23,7 @@ pub enum EdgeRefusal {
 }
 
 // Why a ranking is not taken.
-#[derive(Clone, Copy, Debug)]
+#[derive(Clone, Copy, Debug, PartialEq, Eq)]
 pub enum RankingRefusal {
     // There is not one priority for each piece.
     Count = 13,
