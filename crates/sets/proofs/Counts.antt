@@ -41,6 +41,11 @@ pub size_same : (a b : ℕ) → ((k : ℕ) → member a k ≡ member b k) → si
 unfolding size_of
 size_same a b e = count_same 64 (member a) (member b) (λ k _. e k)
 
+-- there are 64 pieces
+pub size_few : (set : ℕ) → size_of set ≤ 64
+unfolding size_of
+size_few set = omega (arith, count_mono 64 (member set) (λ _. true) (λ _ _. refl), count_all 64)
+
 -- a part has no more pieces
 pub size_mono : (a b : ℕ) → ((k : ℕ) → member a k ≡ true → member b k ≡ true) → size_of a ≤ size_of b
 unfolding size_of

@@ -1,10 +1,12 @@
 -- Pieces put at the levels of their keys one after the other. Assumes nothing.
-use Rattle.std.proofs.Common.{◌≡◌, ℕ, ◌+◌, false, ◌&&◌, ◌||◌, eqb, sym, ap, ◌∙◌}
+use Rattle.std.proofs.Common.{◌≡◌, ℕ, ◌+◌, Bool, true, false, ◌&&◌, ◌||◌, eqb, sym, refl, ap, ◌∙◌}
 use mathlib.Core.Bool.{and_comm}
-use Rattle.sets.specs.Sets.{member, SetOf}
+use Rattle.std.proofs.lemmas.Bool.{eqb-true}
+use Rattle.sets.specs.Sets.{member, SetOf, Without}
 use Rattle.sets.specs.Levels.{level_of, ByKey}
 use Rattle.sets.specs.declared.levels.Levelled.{Levelled}
 use Rattle.sets.proofs.Members.{member-zero, set_none, set_more}
+use Rattle.sets.proofs.Iterating.{Within, passed, passed_more}
 
 module _ (key : ℕ → ℕ) where
   -- the set of a level, however it is written
@@ -19,3 +21,20 @@ module _ (key : ℕ → ℕ) where
   by_key_more i level old new e before put l =
       set_more i (level_of old l) (level_of new l) (λ j. eqb (key j) l) (eqb level l) (before l) (ap (λ x. eqb x l) e)
       (λ j. put l j ∙ ap (λ b. member (level_of old l) j || b) (and_comm (eqb level l) (eqb i j)))
+
+either : (q e t a : Bool) → (e ≡ true → a ≡ t) → ((q && t) || (a && e)) ≡ ((q || e) && t)
+either true true true a h = refl
+either true true false a h = ap (λ b. b && true) (h refl)
+either true false true a h = refl
+either true false false a h = and_comm a false
+either false true t a h = and_comm a true ∙ h refl
+either false false t a h = and_comm a false
+
+-- a turn of a loop over a set puts one more of its pieces at the level of its key
+pub levelled_more : (set rest next k : ℕ) → Within rest set → member rest k ≡ true → Without rest k next
+    → (key : ℕ → ℕ) (level : ℕ) → level ≡ key k → (l j : ℕ) (old new : Bool) → old ≡ (passed set rest j && eqb (key j) l)
+    → new ≡ (old || (eqb level l && eqb k j)) → new ≡ (passed set next j && eqb (key j) l)
+levelled_more set rest next k inside here without key level is l j old new before put =
+    put ∙ ap (λ b. b || (eqb level l && eqb k j)) before
+    ∙ either (passed set rest j) (eqb k j) (eqb (key j) l) (eqb level l) (λ e. ap (λ n. eqb n l) (is ∙ ap key (eqb-true k j e)))
+    ∙ sym (ap (λ b. b && eqb (key j) l) (passed_more set rest next k inside here without j))

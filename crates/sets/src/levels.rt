@@ -1,9 +1,10 @@
 // Sets of pieces by a level that each of them has, so that pieces can be gone through in the order of their levels.
-ghost use Rattle.std.specs.Prelude.{◌≡◌, ℕ, ◌<◌, ◌≤◌, false, ◌&&◌, ◌||◌, ◌⊎◌, ◌==◌};
+ghost use Rattle.std.specs.Prelude.{◌≡◌, ℕ, ◌<◌, ◌≤◌, true, false, ◌&&◌, ◌||◌, ◌⊎◌, ◌==◌};
 ghost use Rattle.sets.specs.Sets.{member};
 ghost use Rattle.sets.specs.Levels.{level_of};
+ghost use Rattle.sets.specs.Over.{Sizes};
 
-use crate::with;
+use crate::{pieces_of, size, with};
 
 // The set of pieces of each level, 0 to 64.
 #[derive(Clone, Copy)]
@@ -17,6 +18,18 @@ impl Levelled {
         ensures { (l j : ℕ) → member (level_of result l) j ≡ false }
     {
         Levelled { sets: [0; 65] }
+    }
+
+    // Each of these pieces at the level of the size of the set that the closure answers of it.
+    pub fn by_size<F: Fn(usize) -> u64>(pieces: u64, sets: F) -> Levelled
+        requires { (k : ℕ) → k < 64 → member pieces k ≡ true → F.pre sets k }
+        ensures { (key : ℕ → ℕ) → Sizes pieces (F.post sets) key → (l j : ℕ) → member (level_of result l) j ≡ (member pieces j && key j == l) }
+    {
+        let mut levels = Levelled::none();
+        for k in pieces_of(pieces) {
+            levels.put(size(sets(k)) as usize, k);
+        }
+        levels
     }
 
     // Puts piece k at a level; nothing changes where there is no such piece or level.
