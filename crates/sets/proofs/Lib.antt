@@ -8,3 +8,4 @@ pub mod Tables
 pub mod Iterating
 pub mod Bests
 pub mod Levelling
+pub mod Made

@@ -8,12 +8,14 @@ ghost use Rattle.sets.specs.Sets.{member, size_of, SetOf};
 mod iterate;
 mod levels;
 mod over;
+mod table;
 #[cfg(test)]
 mod tests;
 
 pub use iterate::{Pieces, pieces_of};
 pub use levels::Levelled;
 pub use over::{filtered, largest_over, sum_over};
+pub use table::table_of;
 
 // Whether piece k is in the set.
 pub fn has(set: u64, k: usize) -> bool
