@@ -9,29 +9,21 @@ ghost use Rattle.theory.specs.Paths.{Chain};
 ghost use Rattle.task.specs.Filing.{filed_task};
 ghost use Rattle.chains.specs.Chains.{deep, Known, Remainders};
 
-use sets::{Levelled, first, pieces_of, size};
+use sets::{Levelled, first, largest_over, pieces_of};
 use task::stages::Filed;
 
 // The largest of the lengths of the set's pieces, and 0 where it has none.
 fn longest_of(lengths: &[u32; 64], set: u64) -> u32
     ensures { LargestWhere (member set) (λ k. slice_index lengths.now k) result }
 {
-    let mut longest = 0;
-    for k in pieces_of(set) {
-        longest = lengths[k].max(longest);
-    }
-    longest
+    largest_over(set, |k| lengths[k] as u64) as u32
 }
 
 // The pieces by how many ancestors they have: along an edge there are more.
 fn by_depth(task: &Filed) -> Levelled
     ensures { ByKey (above (filed_task task.now)) (filed_task task.now).pieces result }
 {
-    let mut levels = Levelled::none();
-    for v in 0..task.pieces() {
-        levels.put(size(task.ancestors(v)) as usize, v);
-    }
-    levels
+    Levelled::by_size(first(task.pieces()), |v| task.ancestors(v))
 }
 
 // Writes the remaining chains of the pieces of a level, where those of all deeper pieces are written.

@@ -1,11 +1,11 @@
 -- Pieces put at the levels of their keys one after the other. Assumes nothing.
-use Rattle.std.proofs.Common.{◌≡◌, ℕ, ◌+◌, Bool, true, false, ◌&&◌, ◌||◌, eqb, sym, refl, ap, ◌∙◌}
+use Rattle.std.proofs.Common.{◌≡◌, ℕ, ◌+◌, ◌≤◌, Bool, true, false, ◌&&◌, ◌||◌, eqb, ltb, sym, refl, ap, ◌∙◌}
 use mathlib.Core.Bool.{and_comm}
 use Rattle.std.proofs.lemmas.Bool.{eqb-true}
 use Rattle.sets.specs.Sets.{member, SetOf, Without}
 use Rattle.sets.specs.Levels.{level_of, ByKey}
 use Rattle.sets.specs.declared.levels.Levelled.{Levelled}
-use Rattle.sets.proofs.Members.{member-zero, set_none, set_more}
+use Rattle.sets.proofs.Members.{member-zero, first_below, set_none, set_more}
 use Rattle.sets.proofs.Iterating.{Within, passed, passed_more}
 
 module _ (key : ℕ → ℕ) where
@@ -38,3 +38,8 @@ levelled_more set rest next k inside here without key level is l j old new befor
     put ∙ ap (λ b. b || (eqb level l && eqb k j)) before
     ∙ either (passed set rest j) (eqb k j) (eqb (key j) l) (eqb level l) (λ e. ap (λ n. eqb n l) (is ∙ ap key (eqb-true k j e)))
     ∙ sym (ap (λ b. b && eqb (key j) l) (passed_more set rest next k inside here without j))
+
+-- of the pieces below n
+pub by_key_first : (n pieces : ℕ) (levels : Levelled) (key : ℕ → ℕ) → n ≤ 64 → SetOf 64 (λ k. ltb k n) pieces
+    → ((l j : ℕ) → member (level_of levels l) j ≡ (member pieces j && eqb (key j) l)) → ByKey key n levels
+by_key_first n pieces levels key few first put l j = put l j ∙ ap (λ b. b && eqb (key j) l) (first_below n pieces few first j)

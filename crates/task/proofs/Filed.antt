@@ -1,14 +1,15 @@
 -- For whoever is handed a filed task: it is lawful, its worst times, how its edges are counted, and its relations turned round and as sets. Assumes nothing.
-use Rattle.std.proofs.Common.{◌≡◌, ℕ, ◌+◌, ◌*◌, ◌<◌, ◌≤◌, Bool, true, false, cond, ◌&&◌, ltb, get_or, sym, refl, ap, ◌∙◌, ⊎_elim, arith}
+use Rattle.std.proofs.Common.{◌≡◌, ℕ, ◌*◌, ◌<◌, ◌≤◌, Bool, true, false, cond, ◌&&◌, ◌↔◌, ltb, get_or, sym, refl, ap, ◌∙◌, ⊎_elim, arith}
 use mathlib.Core.Bool.{and-true, and-false}
-use Rattle.std.proofs.lemmas.Bool.{cases_Bool, cond_both, cond-true, lt-ltb}
-use Rattle.sets.specs.Sets.{member, sum, count, size_of}
-use Rattle.sets.proofs.Sums.{sum_more, sum_cut, sum_small}
+use Rattle.std.proofs.lemmas.Bool.{cases_Bool, cond_both, cond-true, and_parts, and_from, lt-ltb, le-ltb}
+use Rattle.sets.specs.Sets.{member, count, sum_over, size_of, SetOf}
+use Rattle.sets.proofs.Members.{first_below}
+use Rattle.sets.proofs.Sums.{sum_same, sum_cut, sum_small, sum_over_where}
 use Rattle.sets.proofs.Counts.{count_same}
-use Rattle.theory.specs.Tasks.{Task, Lawful}
+use Rattle.theory.specs.Tasks.{Task, Leads, Lawful}
 use Rattle.theory.proofs.Lawfuls.{lawful_of}
 use Rattle.theory.proofs.Ancestors.{ancestor_ends}
-use Rattle.task.specs.Filing.{filed_task, Related}
+use Rattle.task.specs.Filing.{filed_task, edges_of, Related}
 use Rattle.task.specs.declared.stages.Filed.{Filed}
 
 pub filed_lawful : (f : Filed) → Lawful (filed_task f)
@@ -17,10 +18,6 @@ filed_lawful f = lawful_of f.tables.lawful
 -- what it answers for the worst time of one of its pieces
 pub worst_is : (f : Filed) (k r : ℕ) → k < (filed_task f).pieces → r ≡ cond (ltb k (filed_task f).pieces) ((filed_task f).worst k) 0 → r ≡ (filed_task f).worst k
 worst_is f k r l e = e ∙ cond-true (ltb k (filed_task f).pieces) ((filed_task f).worst k) 0 (lt-ltb k (filed_task f).pieces l)
-
--- the edges to the pieces below i
-abbrev pub edges_below : Filed → ℕ → ℕ
-edges_below f i = sum i (λ b. count (filed_task f).pieces (λ a. (filed_task f).edge a b))
 
 -- past the task nothing stands in a relation between pieces
 pub past_none : (n : ℕ) (R : ℕ → ℕ → Bool) → ((a b : ℕ) → R a b ≡ true → (a < n) × (b < n)) → (b a : ℕ) → n ≤ a → cond {A = ℕ} (R a b) 1 0 ≡ 0
@@ -37,13 +34,19 @@ module _ (f : Filed) where
   few_here : (b : ℕ) → count t.pieces (λ a. t.edge a b) ≤ t.pieces * 1
   few_here b = sum_small t.pieces 1 (λ a. cond (t.edge a b) 1 0) (λ a _. cond_both (t.edge a b) 1 0 (λ x. x ≤ 1) (λ _. omega arith) (λ _. omega arith))
 
-  -- a turn of the loop that counts them
-  pub edges_more : (i s : ℕ) → s ≡ size_of (get_or f.tables.predecessors i 0) → edges_below f (i + 1) ≡ edges_below f i + s
-  edges_more i s e = sum_more i (λ b. count t.pieces (λ a. t.edge a b)) ∙ ap (λ x. edges_below f i + x) (sym (e ∙ size_here i))
+  -- the sizes of the sets of predecessors, added up, are the edges, and there are at most 64 to each of at most 64 pieces
+  pub edges_summed : (pieces : ℕ) → SetOf 64 (λ k. ltb k t.pieces) pieces → sum_over pieces (λ k. size_of (get_or f.tables.predecessors k 0)) ≡ edges_of t
+  unfolding edges_of
+  edges_summed pieces first =
+      sum_over_where t.pieces pieces (λ _. true) (λ k. size_of (get_or f.tables.predecessors k 0)) f.tables.few
+      (λ k l. first_below t.pieces pieces f.tables.few first k ∙ le-ltb k t.pieces l)
+      (λ k l. first_below t.pieces pieces f.tables.few first k ∙ lt-ltb k t.pieces l)
+      ∙ sum_same t.pieces (λ k. size_of (get_or f.tables.predecessors k 0)) (λ b. count t.pieces (λ a. t.edge a b)) (λ k _. size_here k)
 
-  -- there are at most 64 to each
-  pub edges_few : (i : ℕ) → edges_below f i ≤ i * 64
-  edges_few i = sum_small i 64 (λ b. count t.pieces (λ a. t.edge a b)) (λ b _. omega (arith, few_here b, f.tables.few))
+  pub edges_few : edges_of t ≤ 64 * 64
+  unfolding edges_of
+  edges_few =
+      omega (arith, sum_small t.pieces 64 (λ b. count t.pieces (λ a. t.edge a b)) (λ b _. omega (arith, few_here b, f.tables.few)), f.tables.few)
 
 -- ---- relations turned round
 
@@ -68,6 +71,15 @@ pub ancestor_in : {t : Task} → Lawful t → (w set u : ℕ) → w < t.pieces �
 ancestor_in {t} law w set u on_task related h =
     let is = sym (related_at t t.ancestor w set on_task related u) ∙ h in
     (is, (ancestor_ends law u w is).0)
+
+-- and it is exactly what leads to the piece, of which there is nothing past the task
+pub related_leads : {t : Task} → Lawful t → (k r : ℕ) → Related t t.ancestor k r → (x : ℕ) → (member r x ≡ true) ↔ ∥ Leads t x k ∥₁
+related_leads {t} law k r related x = (
+  λ h. (law.exact x k).0 (and_parts (ltb k t.pieces) (t.ancestor x k) (sym (related x) ∙ h)).1,
+  λ h.
+      let is = (law.exact x k).1 h in
+      related x ∙ and_from (ltb k t.pieces) (t.ancestor x k) (lt-ltb k t.pieces (ancestor_ends law x k is).1) is,
+)
 
 -- and how many it has
 pub size_related : (t : Task) (R : ℕ → ℕ → Bool) (k r : ℕ) → k < t.pieces → Related t R k r → size_of r ≡ count 64 (λ a. R a k)

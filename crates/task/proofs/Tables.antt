@@ -42,7 +42,7 @@ all_below n set few all k =
 
 -- ---- the ancestors with one more edge
 
-swapped : (m e : Bool) → (m || (e && true)) ≡ (e || m)
+pub swapped : (m e : Bool) → (m || (e && true)) ≡ (e || m)
 swapped true true = refl
 swapped true false = refl
 swapped false true = refl

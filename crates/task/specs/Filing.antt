@@ -1,8 +1,8 @@
 -- What each call of filing a task answers, and the task that it leaves. Assumes nothing.
-use Rattle.std.specs.Prelude.{◌≡◌, ℕ, ◌<◌, ◌≤◌, Bool, true, false, ◌&&◌, ◌||◌, List, [], ◌∷◌, ◌++◌, length, take, Ok, Err, Result, ◌==◌, ◌≢◌, nat_lt, slice_index, slice_index_or}
+use Rattle.std.specs.Prelude.{◌≡◌, ℕ, ◌<◌, Bool, true, false, ◌&&◌, ◌||◌, List, [], ◌∷◌, ◌++◌, length, take, Ok, Err, Result, ◌==◌, ◌≢◌, nat_lt, slice_index, slice_index_or}
 use Rattle.std.proofs.Math.Logic.{◌∨₁◌}
 use Rattle.sets.specs.Sets.{member, sum, count}
-use Rattle.theory.specs.Tasks.{Task, Leads}
+use Rattle.theory.specs.Tasks.{Task, Leads, WorstFits}
 use Rattle.task.specs.Tables.{task_from}
 use Rattle.task.specs.declared.stages.Entering.{Entering}
 use Rattle.task.specs.declared.stages.Linking.{Linking}
@@ -33,10 +33,6 @@ abbrev pub filed_task : Filed → Task
 filed_task f = task_of f.tables
 
 -- ---- pieces
-
--- a worst time that a piece may have
-abbrev pub WorstFits : ℕ → Type 0
-WorstFits w = (1 ≤ w) × (w ≤ 65535)
 
 -- what entering a piece answers, and the pieces that it leaves
 abbrev pub EnterSays : Entering → ℕ → Result ℕ PieceRefusal → Entering → Type 0

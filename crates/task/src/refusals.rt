@@ -1,4 +1,5 @@
-// Why a call of filing is refused: an enum for each family of calls, and the number of each refusal.
+// Why a call of filing is refused: an enum for each family of calls, and the number of each refusal. Each enum has its own
+// `number`: a trait would take the same three bodies, and a call by From or Into would not say that its number is a refusal's.
 ghost use Rattle.std.specs.Prelude.{◌≡◌};
 ghost use Rattle.task.specs.Refusals.{piece_number, edge_number, ranking_number};
 

@@ -7,7 +7,8 @@ mod edges;
 mod pieces;
 mod questions;
 
-// A task whose pieces are being entered: the first `count` worst times are theirs.
+// A task whose pieces are being entered: the first `count` worst times are theirs. An array and a count, since a task is
+// held without the heap.
 #[derive(Drop)]
 pub struct Entering {
     count: usize,
@@ -18,7 +19,8 @@ pub struct Entering {
 }
 
 // A task as its tables: bit a of predecessors[b] says that an edge leads from a to b, bit a of ancestors[b] that
-// one or more edges do, and bit a of not_after[b] that the priority of a is not after that of b.
+// one or more edges do, and bit a of not_after[b] that the priority of a is not after that of b. One array for each, side by
+// side, is the form that the project gives a task: whoever turns a relation round reads one array from end to end.
 #[derive(Clone, Copy)]
 struct Tables {
     pieces: usize,

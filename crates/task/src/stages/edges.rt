@@ -8,7 +8,7 @@ ghost use Rattle.task.specs.Filing.{OnTask, Circle, Linked, LinkSays, RankSays, 
 use crate::priorities::Priority;
 use crate::refusals::{EdgeRefusal, RankingRefusal};
 use crate::stages::{Filed, Linking, Tables};
-use sets::{has, with};
+use sets::{has, table_of, with};
 
 // The set, with the pieces of another where they are to be added.
 fn joined(set: u64, add: bool, more: u64) -> u64
@@ -25,18 +25,17 @@ fn reached(ancestors: &[u64; 64], before: usize, after: usize) -> [u64; 64]
     ensures { Reached ancestors.now before after 64 result }
 {
     let gained = with(ancestors[before], before, true);
-    let mut table = [0; 64];
-    for k in 0..64 {
-        table[k] = joined(
+    table_of(64, |k| {
+        joined(
             ancestors[k],
             (k == after) | has(ancestors[k], after),
             gained,
-        );
-    }
-    table
+        )
+    })
 }
 
-// The pieces whose priorities are not after that of piece k.
+// The pieces whose priorities are not after that of piece k. An index goes over the lent slice, as the project asks of a
+// ranking.
 fn not_after_set<P: Priority>(priorities: &[P], k: usize) -> u64
     requires k { k < length priorities.now }
     requires few { length priorities.now ≤ 64 }
@@ -49,7 +48,7 @@ fn not_after_set<P: Priority>(priorities: &[P], k: usize) -> u64
     set
 }
 
-// For each piece the pieces whose priorities are not after its own.
+// For each piece the pieces whose priorities are not after its own, by an index likewise.
 fn ranking<P: Priority>(priorities: &[P]) -> [u64; 64]
     requires { length priorities.now ≤ 64 }
     ensures sets { (p : P) → Columns (length priorities.now) (λ x y. P.not_after (slice_index_or priorities.now x p) (slice_index_or priorities.now y p)) (length priorities.now) result }

@@ -5,7 +5,7 @@ ghost use Rattle.task.specs.Filing.{entered, EnterSays, Closes, linking_task};
 
 use crate::refusals::PieceRefusal;
 use crate::stages::{Entering, Linking, Tables};
-use sets::first;
+use sets::{first, table_of};
 
 // For each of n pieces the set of them all.
 fn all_equal(n: usize) -> [u64; 64]
@@ -13,12 +13,7 @@ fn all_equal(n: usize) -> [u64; 64]
     ensures sets { Columns n (λ _ _. true) n result }
     ensures rest { EmptyFrom n result }
 {
-    let all = first(n);
-    let mut table = [0; 64];
-    for k in 0..n {
-        table[k] = all;
-    }
-    table
+    table_of(n, |_| first(n))
 }
 
 impl Entering {

@@ -1,24 +1,17 @@
--- Each turn adds the edges to one more piece, of which there are at most 64.
-use Rattle.std.proofs.Common.{◌≡◌, ℕ, ◌+◌, sym, ap, ◌∙◌, subst, arith}
-use Rattle.task.specs.Filing.{edges_of}
-use Rattle.task.proofs.Filed.{edges_below, edges_more, edges_few}
+-- The edges to each piece, added up.
+use Rattle.std.proofs.Common.{◌≡◌, ℕ, get_or, ◌∙◌, rules, arith}
+use Rattle.sets.specs.Sets.{size_of}
+use Rattle.task.specs.Filing.{filed_task, edges_of}
+use Rattle.task.proofs.Filed.{edges_summed, edges_few}
 use Rattle.task.proofs.stages.Filed.edges.Goals as goal
 
-pub loop-k-preserved : goal.loop-k-preserved
-loop-k-preserved c =
-    ap (λ (n : ℕ). n + c.size-edges.result) c.loop-k.invariant ∙ sym (edges_more c.args.self.now c.loop-k.k c.size-edges.result c.size-edges.ensures)
+summed : (c : goal.After-sum_over) → c.sum_over.result ≡ edges_of (filed_task c.args.self.now)
+summed c =
+    c.sum_over.ensures (λ (k : ℕ). size_of (get_or c.args.self.now.tables.predecessors k 0)) (λ k r h said. search rules)
+    ∙ edges_summed c.args.self.now c.first.result c.first.ensures
 
-pub overflow_add-edges : goal.overflow_add-edges
-overflow_add-edges c =
-    let f = c.args.self.now in
-    let k = c.loop-k.k in
-    let old : c.loop-k.edges ≡ edges_below f k = c.loop-k.invariant in
-    let few = f.tables.few in
-    omega (arith, edges_more f k c.size-edges.result c.size-edges.ensures, edges_few f (k + 1))
+pub overflow_cast-result : goal.overflow_cast-result
+overflow_cast-result c = omega (arith, summed c, edges_few c.args.self.now)
 
 pub returns : goal.returns
-unfolding edges_of
-returns c =
-    let f = c.args.self.now in
-    let end : c.loop-k.k ≡ f.tables.pieces = omega arith in
-    subst (λ (n : ℕ). c.loop-k.edges ≡ edges_below f n) end c.loop-k.invariant
+returns c = summed c

@@ -1,7 +1,0 @@
--- The edges counted are those to the pieces passed.
-use Rattle.std.proofs.Common.{◌≡◌}
-use Rattle.task.proofs.Filed.{edges_below}
-use Rattle.task.proofs.stages.Filed.edges.Given as goal
-
-abbrev pub invariant-loop-k : goal.invariant-loop-k
-invariant-loop-k l = l.edges ≡ edges_below l.self l.k
