@@ -8,6 +8,7 @@ mod asking;
 mod working;
 
 // Each piece's worst time, 0 for a piece that is not held, and the ticks that it has run; the set of the pieces held, and of those that have ended.
+// Worst times and ticks stand side by side, not piece by piece: the ticks are held against worst times and against true times alike.
 #[derive(Clone, Copy)]
 pub(crate) struct Holding {
     worst: [u32; 64],

@@ -1,4 +1,5 @@
-// Why a platform is not filled: an enum for each kind of platform, and the number of each refusal.
+// Why a platform is not filled: an enum for each kind of platform, so that nobody handles a case that cannot come, and the number of
+// each refusal, by a method of each enum: a trait would take the same two bodies.
 ghost use Rattle.std.specs.Prelude.{◌≡◌};
 ghost use Rattle.platform.specs.Refusals.{timed_number, scripted_number};
 

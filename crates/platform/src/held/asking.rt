@@ -29,14 +29,14 @@ impl Holding {
     pub(crate) fn worst(&self, piece: usize) -> u32
         ensures { result ≡ (held_means self.now).worst piece }
     {
-        if piece < 64 { self.worst[piece] } else { 0 }
+        self.worst.get(piece).copied().unwrap_or(0)
     }
 
     // The ticks that the piece has run.
     pub(crate) fn ran(&self, piece: usize) -> u32
         ensures { result ≡ (held_means self.now).ran piece }
     {
-        if piece < 64 { self.ran[piece] } else { 0 }
+        self.ran.get(piece).copied().unwrap_or(0)
     }
 
     // Whether the piece has ended.

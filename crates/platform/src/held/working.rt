@@ -5,17 +5,13 @@ ghost use Rattle.theory.specs.Platforms.{runs, Works};
 ghost use Rattle.platform.specs.Holding.{held_means, EndsAlso};
 
 use crate::held::Holding;
-use sets::{pieces_of, with};
+use sets::{filtered, pieces_of};
 
 // The pieces of the set that are one tick short of their limits.
 fn one_short(ran: &[u32; 64], limits: &[u32; 64], set: u64) -> u64
     ensures { (k : ℕ) → member result k ≡ (member set k && slice_index ran.now k + 1 == slice_index limits.now k) }
 {
-    let mut short = 0;
-    for k in pieces_of(set) {
-        short = with(short, k, limits[k].saturating_sub(ran[k]) == 1);
-    }
-    short
+    filtered(set, |k| limits[k].saturating_sub(ran[k]) == 1)
 }
 
 // The ticks run, with one more for each piece of the set.

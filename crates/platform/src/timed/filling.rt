@@ -8,8 +8,8 @@ use crate::timed::{TimedPlatform, TimedRow};
 
 impl TimedRow {
     // Whether the row fits, or what is wrong with it.
-    fn judge(self) -> Result<(), TimedRefusal>
-        ensures { RowSays self result }
+    fn judge(&self) -> Result<(), TimedRefusal>
+        ensures { RowSays self.now result }
     {
         if self.worst < 1 || self.worst > 65535 {
             return Err(TimedRefusal::Worst);
@@ -41,8 +41,7 @@ impl TimedPlatform {
         }
         let mut worst = [0; 64];
         let mut times = [0; 64];
-        for k in 0..rows.len() {
-            let row = rows[k];
+        for (k, row) in rows.iter().enumerate() {
             row.judge()?;
             worst[k] = row.worst;
             times[k] = row.time;
