@@ -4,7 +4,7 @@ ghost use Rattle.sets.specs.Sets.{member};
 ghost use Rattle.theory.specs.Paths.{volume_of, volume as volume_in};
 ghost use Rattle.task.specs.Filing.{filed_task};
 
-use sets::{first, pieces_of};
+use sets::{first, sum_over};
 use task::stages::Filed;
 
 // The worst times of the task's pieces in the set, added up.
@@ -12,11 +12,7 @@ pub(crate) fn work(task: &Filed, set: u64) -> u64
     ensures value { result ≡ volume_of (filed_task task.now) (member set) }
     ensures small { result ≤ 4194240 }
 {
-    let mut total = 0;
-    for k in pieces_of(set) {
-        total += task.worst(k) as u64;
-    }
-    total
+    sum_over(set, |k| task.worst(k))
 }
 
 // The worst times of all pieces, added up.

@@ -1,9 +1,10 @@
 -- Pieces put at the levels of their keys one after the other. Assumes nothing.
-use Rattle.std.proofs.Common.{◌≡◌, ℕ, ◌+◌, ◌≤◌, Bool, true, false, ◌&&◌, ◌||◌, eqb, ltb, sym, refl, ap, ◌∙◌}
+use Rattle.std.proofs.Common.{◌≡◌, ℕ, ◌+◌, ◌<◌, ◌≤◌, Bool, true, false, ◌&&◌, ◌||◌, eqb, ltb, sym, refl, ap, ◌∙◌, subst}
 use mathlib.Core.Bool.{and_comm}
-use Rattle.std.proofs.lemmas.Bool.{eqb-true}
-use Rattle.sets.specs.Sets.{member, SetOf, Without}
+use Rattle.std.proofs.lemmas.Bool.{eqb-true, ltb-true}
+use Rattle.sets.specs.Sets.{member, size_of, SetOf, Without}
 use Rattle.sets.specs.Levels.{level_of, ByKey}
+use Rattle.sets.specs.Over.{Sizes}
 use Rattle.sets.specs.declared.levels.Levelled.{Levelled}
 use Rattle.sets.proofs.Members.{member-zero, first_below, set_none, set_more}
 use Rattle.sets.proofs.Iterating.{Within, passed, passed_more}
@@ -39,7 +40,14 @@ levelled_more set rest next k inside here without key level is l j old new befor
     ∙ either (passed set rest j) (eqb k j) (eqb (key j) l) (eqb level l) (λ e. ap (λ n. eqb n l) (is ∙ ap key (eqb-true k j e)))
     ∙ sym (ap (λ b. b && eqb (key j) l) (passed_more set rest next k inside here without j))
 
--- of the pieces below n
-pub by_key_first : (n pieces : ℕ) (levels : Levelled) (key : ℕ → ℕ) → n ≤ 64 → SetOf 64 (λ k. ltb k n) pieces
-    → ((l j : ℕ) → member (level_of levels l) j ≡ (member pieces j && eqb (key j) l)) → ByKey key n levels
-by_key_first n pieces levels key few first put l j = put l j ∙ ap (λ b. b && eqb (key j) l) (first_below n pieces few first j)
+-- levels by size of the pieces below n, where a set is answered of each of them whose size is its key
+pub by_key_sized : {answer : ℕ → ℕ → Type 0} (key : ℕ → ℕ) (n m all : ℕ) (levels : Levelled) → m ≡ n → n ≤ 64 → SetOf 64 (λ k. ltb k m) all
+    → ((v set : ℕ) → v < n → answer v set → size_of set ≡ key v)
+    → ((f : ℕ → ℕ) → Sizes all answer f → (l j : ℕ) → member (level_of levels l) j ≡ (member all j && eqb (f j) l)) → ByKey key n levels
+by_key_sized {answer} key n m all levels same few first sized put l j = put key sizes l j ∙ ap (λ b. b && eqb (key j) l) (below j)
+  where
+    below : (k : ℕ) → member all k ≡ ltb k n
+    below = first_below n all few (subst (λ x. SetOf 64 (λ k. ltb k x) all) same first)
+
+    sizes : Sizes all answer key
+    sizes v set here said = sized v set (ltb-true v n (sym (below v) ∙ here)) said

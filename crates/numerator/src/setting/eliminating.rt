@@ -8,18 +8,14 @@ ghost use Rattle.numerator.specs.Settings.{task_in, Piece, Behind, Room, through
 
 use crate::setting::Setting;
 use crate::totals::work;
-use sets::{Levelled, pieces_of, size};
+use sets::{Levelled, first, pieces_of};
 use task::stages::Filed;
 
 // The pieces by how many are not after them: those ahead come first.
 fn by_rank(task: &Filed) -> Levelled
     ensures { ByKey (rank (filed_task task.now)) (filed_task task.now).pieces result }
 {
-    let mut levels = Levelled::none();
-    for v in 0..task.pieces() {
-        levels.put(size(task.not_after(v)) as usize, v);
-    }
-    levels
+    Levelled::by_size(first(task.pieces()), |v| task.not_after(v))
 }
 
 impl Setting {
