@@ -3,11 +3,8 @@ use Rattle.std.proofs.Common.{◌≡◌, ◌<◌, ◌≤◌, rules, arith, ⊎_e
 use Rattle.std.proofs.lemmas.List.{get_or_past}
 use Rattle.std.proofs.lemmas.Bool.{cases_lt}
 use borrow.Author.Tests.{tests}
-use Rattle.sets.proofs.Made.{serves_places, places}
+use Rattle.sets.proofs.Made.{places}
 use Rattle.sets.proofs.table.table_of.Goals as goal
-
-pub from_fn-requires : goal.from_fn-requires
-from_fn-requires g c = (omega arith, serves_places 64 _ (λ k q h. search (rules, tests)) (λ k h. search (rules, tests, c.requires)))
 
 pub returns-clause-pieces : goal.returns-clause-pieces
 returns-clause-pieces g c k h l =
