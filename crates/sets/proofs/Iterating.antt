@@ -51,9 +51,6 @@ module _ (set rest next k : ℕ) (inside : Within rest set) (here : member rest 
 abbrev pub Gathered : ℕ → ℕ → (ℕ → Bool) → ℕ → Type 0
 Gathered set rest p r = (j : ℕ) → member r j ≡ (passed set rest j && p j)
 
-pub gathered_none : (set rest : ℕ) (p : ℕ → Bool) → rest ≡ set → Gathered set rest p 0
-gathered_none set rest p e j = member-zero j ∙ sym (ap (λ b. b && p j) (passed_none set rest e j))
-
 -- one is added where the test says so
 pub gathered_more : (set rest next k : ℕ) → Within rest set → member rest k ≡ true → Without rest k next
     → (p : ℕ → Bool) (r s : ℕ) (add : Bool) → Gathered set rest p r → add ≡ p k → ((j : ℕ) → member s j ≡ (member r j || (eqb k j && add)))

@@ -1,22 +1,7 @@
 -- Arrays made by calls of a closure, one for each place, where a call leaves the closure as it was. Assumes nothing.
-use Rattle.std.proofs.Common.{◌≡◌, ℕ, zero, suc, ◌+◌, ◌<◌, List, [], ◌∷◌, get_or, sym, ◌∙◌, subst, arith}
-use Rattle.std.specs.List.{FoldsTo}
-use Rattle.std.specs.Iterator.{CallableAtEachTurn}
-use Rattle.std.specs.Array.{index_steps, IsFromFnResultFrom}
+use Rattle.std.proofs.Common.{◌≡◌, ℕ, zero, suc, ◌+◌, ◌<◌, List, get_or, sym, subst, arith}
+use Rattle.std.specs.Array.{IsFromFnResultFrom}
 use denote.Param.Members.{Mut, Called}
-
-still : {P A : Type 0} (R : P → A → P → Type 0) (xs : List A) (p q : P) → ((x : A) (r : P) → R p x r → r ≡ p) → FoldsTo R p xs q → q ≡ p
-still R [] p q stays h = sym h
-still R (x ∷ xs) p q stays h =
-    let same = stays x h.0 h.1 in
-    still R xs h.0 q (subst (λ r. (y : _) (s : _) → R r y s → s ≡ r) (sym same) stays) h.2 ∙ same
-
--- the closure may be called at each place, if it may at each place as it is at first
-pub serves_places : {P : Type 0} {R : P → ℕ → P → Type 0} {Q : P → ℕ → Type 0} (n : ℕ) (p : P) → ((k : ℕ) (q : P) → R p k q → q ≡ p)
-    → ((k : ℕ) → k < n → Q p k) → CallableAtEachTurn (index_steps n) R Q 0 p
-serves_places {P} {R} {Q} n p stays may = record {
-  at = λ xs t q k u y calls turn. subst (λ r. Q r k) (sym (still R xs p q stays calls)) (may k (omega (arith, turn.0, turn.1)));
-}
 
 module _ {F : Type 0} {g : Mut F (ℕ × Unit {0}) ℕ} (P : ℕ → ℕ → Type 0) (ys : List ℕ) where
   each : (n i : ℕ) (f : F) → ((k y : ℕ) (q : F) → Called g f (k, tt) y q → (q ≡ f) × P k y) → IsFromFnResultFrom g f ys i n

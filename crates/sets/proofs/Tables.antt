@@ -1,6 +1,5 @@
 -- Tables of numbers, one for each piece, that are written place by place. Assumes nothing.
-use Rattle.std.proofs.Common.{◌≡◌, ℕ, ◌+◌, ◌<◌, true, false, cond, ◌&&◌, ◌||◌, eqb, List, length, get_or, set, replicate, sym, refl, ap, ◌∙◌, subst, ⊎_elim, arith, length-set, get_or-set_other, get_or-set_same}
-use mathlib.Core.Bool.{and-true, or-false}
+use Rattle.std.proofs.Common.{◌≡◌, ℕ, ◌+◌, ◌<◌, false, cond, eqb, List, length, get_or, set, replicate, sym, ap, ◌∙◌, subst, ⊎_elim, arith, length-set, get_or-set_other, get_or-set_same}
 use lib.ListN.{get_or-replicate, length-replicate}
 use Rattle.std.proofs.lemmas.List.{get_or_past}
 use Rattle.std.proofs.lemmas.Bool.{cases_lt, cases_eq, eq-eqb, ne_eqb}
@@ -30,19 +29,3 @@ set_below P l i v h old new k lt =
     ⊎_elim (λ e. subst (λ n. P n (get_or (set l i v) n 0)) (sym e) (subst (P i) (sym (get_or-set_same l i v 0 h)) new))
     (λ d. subst (P k) (sym (get_or-set_other l i k v 0 d)) (old k (omega arith)))
     (cases_eq k i)
-
--- one piece put into one of the sets: what each of them has then
-pub put_at : (l : List ℕ) (i v k : ℕ) → i < length l → ((j : ℕ) → member v j ≡ (member (get_or l i 0) j || (eqb k j && true)))
-    → (y j : ℕ) → member (get_or (set l i v) y 0) j ≡ (member (get_or l y 0) j || (eqb i y && eqb k j))
-put_at l i v k h new y j =
-    ⊎_elim (λ e. subst (λ z. member (get_or (set l i v) z 0) j ≡ (member (get_or l z 0) j || (eqb i z && eqb k j))) (sym e) here) away (cases_eq y i)
-  where
-    here : member (get_or (set l i v) i 0) j ≡ (member (get_or l i 0) j || (eqb i i && eqb k j))
-    here =
-        ap (λ s. member s j) (get_or-set_same l i v 0 h) ∙ new j
-        ∙ ap (λ b. member (get_or l i 0) j || b) (and-true (eqb k j) ∙ ap (λ b. b && eqb k j) (sym (eq-eqb i i refl)))
-
-    away : (y ≡ i → ⊥) → member (get_or (set l i v) y 0) j ≡ (member (get_or l y 0) j || (eqb i y && eqb k j))
-    away d =
-        ap (λ s. member s j) (get_or-set_other l i y v 0 d)
-        ∙ sym (ap (λ b. member (get_or l y 0) j || (b && eqb k j)) (ne_eqb i y (λ e. d (sym e))) ∙ or-false (member (get_or l y 0) j))

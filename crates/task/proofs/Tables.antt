@@ -5,7 +5,7 @@ use Rattle.std.proofs.lemmas.List.{get_or_past}
 use Rattle.std.proofs.lemmas.Bool.{cases_lt, cases_eq, eq-eqb, ne_eqb, lt-ltb, le-ltb, and_right, or_from, and_left}
 use Rattle.sets.specs.Sets.{member, SetOf}
 use Rattle.sets.proofs.Members.{member-zero}
-use Rattle.sets.proofs.Tables.{kept_length, set_below}
+use Rattle.sets.proofs.Tables.{set_below}
 use Rattle.task.specs.Tables.{leads_on, Reached, Columns, EmptyFrom}
 
 -- one more edge
@@ -47,17 +47,6 @@ swapped true true = refl
 swapped true false = refl
 swapped false true = refl
 swapped false false = refl
-
--- the set of what leads to one more piece
-pub reached_more : (old table : List ℕ) (a b i gained r : ℕ) (led : Bool) → i < 64 → length table ≡ 64 → Reached old a b i table
-    → ((j : ℕ) → member gained j ≡ (member (get_or old a 0) j || (eqb a j && true))) → led ≡ member (get_or old i 0) b
-    → ((j : ℕ) → member r j ≡ (member (get_or old i 0) j || ((eqb i b || led) && member gained j)))
-    → (length (set table i r) ≡ 64) × Reached old a b (i + 1) (set table i r)
-reached_more old table a b i gained r led lt e so g is w = (
-  kept_length table i r 64 e,
-  set_below (λ y set. (x : ℕ) → member set x ≡ leads_on old a b x y) table i r (omega arith) so
-      (λ x. w x ∙ ap₂ (λ c d. member (get_or old i 0) x || ((eqb i b || c) && d)) is (g x ∙ swapped (member (get_or old a 0) x) (eqb a x))),
-)
 
 past : (l : List ℕ) → length l ≡ 64 → (y x : ℕ) → 64 ≤ y → member (get_or l y 0) x ≡ false
 past l e y x h = ap (λ n. member n x) (get_or_past l y 0 (omega arith)) ∙ member-zero x
