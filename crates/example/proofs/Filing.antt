@@ -15,7 +15,7 @@ use Rattle.task.specs.declared.refusals.RankingRefusal.{RankingRefusal}
 use Rattle.task.specs.declared.refusals.RankingRefusal.TheVariants.{Count}
 use Rattle.example.specs.declared.lists.Edge.{Edge}
 use Rattle.example.specs.declared.lists.Refusal.TheVariants.{Link, Ranking}
-use Rattle.example.specs.Lists.{joins, Joined, Listed, LinkAllSays, FileSays}
+use Rattle.example.specs.Lists.{joins, Joined, Listed, EnterAllSays, LinkAllSays, FileSays}
 
 -- a list at one of its elements
 pub split_at : {X : Type 0} (xs : List X) (i : ℕ) (d : X) → i < length xs → xs ≡ take i xs ++ (get_or xs i d ∷ drop (i + 1) xs)
@@ -38,6 +38,19 @@ link_kept l m x y Circular h = h.3
 
 pub rank_kept : {P : Type 0} (not_after : P → P → Bool) (l m : Linking) (ps : List P) (e : RankingRefusal) → RankSays not_after l ps (Err e) m → m ≡ l
 rank_kept not_after l m ps Count h = h.1
+
+-- the next of the pieces is refused
+pub enter_refused : (worsts : List ℕ) (a b : Entering) (i w : ℕ) (e : PieceRefusal) → i < length worsts → get_or worsts i 0 ≡ w → entered a ≡ take i worsts
+    → EnterSays a w (Err e) b → EnterAllSays worsts (Err e)
+enter_refused worsts a b i w e l is front said = (
+  take i worsts,
+  w,
+  drop (i + 1) worsts,
+  subst (λ x. worsts ≡ take i worsts ++ (x ∷ drop (i + 1) worsts)) is (split_at worsts i 0 l),
+  a,
+  front,
+  subst (λ x. EnterSays a w (Err e) x) (enter_kept a b w e said) said,
+)
 
 -- ---- one more edge of the list
 
