@@ -1,14 +1,9 @@
 -- One more piece like those entered, up to one that is refused.
-use Rattle.std.proofs.Common.{◌≡◌, replicate, ap, sym, ◌∙◌, arith, subst, ◌∷◌, [], ◌++◌}
-use Rattle.std.proofs.lemmas.List.{length-replicate, get_or-replicate, take-replicate, replicate_more}
+use Rattle.std.proofs.Common.{replicate, sym, ◌∙◌, arith}
+use Rattle.std.proofs.lemmas.List.{length-replicate, get_or-replicate, take-replicate}
 use Rattle.std.proofs.lemmas.Result.{err_from_is_err_and}
-use Rattle.task.specs.Filing.{Closes, linking_task}
 use Rattle.example.proofs.Filing.{enter_refused}
 use Rattle.example.proofs.alike.alike.Goals as goal
-
-pub loop-preserved : goal.loop-preserved
-loop-preserved c =
-    c.in_ok-enter.ensures.3 ∙ ap (λ xs. xs ++ (c.args.worst ∷ [])) c.loop.invariant ∙ replicate_more c.loop.counter c.args.worst
 
 pub returns-in_err-enter : goal.returns-in_err-enter
 returns-in_err-enter c =
@@ -20,9 +15,3 @@ returns-in_err-enter c =
     enter_refused (replicate n w) c.loop.entering c.enter.new.self i w c.in_err-enter.field-0.0 (omega (arith, length-replicate n w))
     (get_or-replicate n i w 0 (omega arith)) (c.loop.invariant ∙ sym (take-replicate i n w (omega arith))) c.in_err-enter.ensures
     )
-
-pub returns : goal.returns
-returns c =
-    let all : c.loop.counter ≡ c.args.pieces = omega arith in
-    subst (λ n. Closes (replicate n c.args.worst) (linking_task c.close.result)) all
-    (subst (λ ws. Closes ws (linking_task c.close.result)) c.loop.invariant c.close.ensures)

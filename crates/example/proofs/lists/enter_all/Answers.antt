@@ -1,15 +1,8 @@
 -- One more piece behind those entered, up to one that is refused.
-use Rattle.std.proofs.Common.{get_or, refl, ◌∙◌}
-use Rattle.std.proofs.lemmas.List.{take_all}
+use Rattle.std.proofs.Common.{get_or, refl}
 use Rattle.std.proofs.lemmas.Result.{err_from_is_err_and}
-use Rattle.task.specs.Filing.{entered}
-use Rattle.example.proofs.Filing.{entered_more, enter_refused}
+use Rattle.example.proofs.Filing.{enter_refused}
 use Rattle.example.proofs.lists.enter_all.Goals as goal
-
-pub loop-w-preserved : goal.loop-w-preserved
-loop-w-preserved c =
-    entered_more c.args.worst.now (entered c.loop-w.entering) (entered c.enter.new.self) c.loop-w.w-index c.loop-w-test.true c.loop-w.invariant
-    c.in_ok-enter.ensures.3
 
 pub returns-in_err-enter : goal.returns-in_err-enter
 returns-in_err-enter c =
@@ -19,6 +12,3 @@ returns-in_err-enter c =
     rw (p.1, p.2)
     (enter_refused ws c.loop-w.entering c.enter.new.self i (get_or ws i 0) c.in_err-enter.field-0.0 c.loop-w-test.true refl c.loop-w.invariant
     c.in_err-enter.ensures)
-
-pub returns : goal.returns
-returns c = c.loop-w.invariant ∙ take_all c.loop-w.w-index c.args.worst.now c.loop-w-test.false

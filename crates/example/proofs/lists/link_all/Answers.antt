@@ -1,14 +1,10 @@
 -- One more edge behind those entered, up to one that is refused.
 use Rattle.std.proofs.Common.{◌+◌, get_or, take, drop, Err, sym, subst}
-use Rattle.std.proofs.lemmas.List.{take_all}
 use Rattle.std.proofs.lemmas.Result.{err_from_is_err_and}
 use Rattle.task.specs.Filing.{linking_task, LinkSays}
 use Rattle.example.specs.Lists.{Joined}
-use Rattle.example.proofs.Filing.{split_at, link_kept, joined_none, joined_more}
+use Rattle.example.proofs.Filing.{split_at, link_kept, joined_more}
 use Rattle.example.proofs.lists.link_all.Goals as goal
-
-pub loop-before-init : goal.loop-before-init
-loop-before-init c = joined_none (linking_task c.args.linking.now)
 
 pub loop-before-preserved : goal.loop-before-preserved
 loop-before-preserved c =
@@ -33,8 +29,3 @@ returns-in_err-link c =
       subst (λ x. Joined (linking_task c.args.linking.now) (take i edges) (linking_task x)) (sym same) c.loop-before.invariant,
       subst (λ x. LinkSays x edge.0 edge.1 (Err e) m) (sym same) said,
     )
-
-pub returns : goal.returns
-returns c =
-    subst (λ front. Joined (linking_task c.args.linking.now) front (linking_task c.loop-before.linking))
-    (take_all c.loop-before.before-index c.args.edges.now c.loop-before-test.false) c.loop-before.invariant
