@@ -7,6 +7,7 @@ use std::test::Fail;
 fn the_worked_example_is_filed(rt: HostRuntime) -> Result<(), Fail> {
     let task = worked_example()?;
     assert!(rt; task.pieces() == 6 && task.edges() == 3);
+    // worst time, predecessors, ancestors and not-after set of each piece, and of none
     let rows = [
         (3, 0, 0, 0b110001),
         (2, 0, 0, 0b111111),
@@ -16,9 +17,14 @@ fn the_worked_example_is_filed(rt: HostRuntime) -> Result<(), Fail> {
         (2, 0b1, 0b1, 0b110001),
         (0, 0, 0, 0),
     ];
-    for (k, (worst, predecessors, ancestors, not_after)) in rows.into_iter().enumerate() {
-        assert!(rt; task.worst(k) == worst && task.predecessors(k) == predecessors);
-        assert!(rt; task.ancestors(k) == ancestors && task.not_after(k) == not_after);
+    for (k, row) in rows.into_iter().enumerate() {
+        let filed = (
+            task.worst(k),
+            task.predecessors(k),
+            task.ancestors(k),
+            task.not_after(k),
+        );
+        assert_eq!(rt; filed, row, "piece {k}");
     }
     Ok(())
 }

@@ -3,17 +3,22 @@ use crate::deadlines::Deadline;
 use example::alike::alike;
 use std::test::Fail;
 use task::priorities::{Band, Banded, Plain, Priority};
+use task::stages::Filed;
 
 fn banded(band: Band, number: u8) -> Banded {
     Banded { band, number }
+}
+
+// The not-after sets of a task's first three pieces.
+fn not_after_sets(task: &Filed) -> [u64; 3] {
+    [0, 1, 2].map(|k| task.not_after(k))
 }
 
 // The not-after sets of three pieces that are ranked so.
 fn ranked<P: Priority>(priorities: &[P]) -> Result<[u64; 3], Fail> {
     let mut linking = alike(3, 1)?;
     linking.rank(priorities)?;
-    let task = linking.file();
-    Ok([0, 1, 2].map(|k| task.not_after(k)))
+    Ok(not_after_sets(&linking.file()))
 }
 
 #[test]
@@ -64,9 +69,6 @@ fn a_later_ranking_replaces_an_earlier_one(rt: HostRuntime) -> Result<(), Fail> 
     let mut linking = alike(3, 1)?;
     linking.rank(&[Plain(1), Plain(2), Plain(3)])?;
     linking.rank(&[Plain(3), Plain(2), Plain(1)])?;
-    let task = linking.file();
-    assert!(rt;
-        task.not_after(0) == 0b111 && task.not_after(1) == 0b110 && task.not_after(2) == 0b100
-    );
+    assert_eq!(rt; not_after_sets(&linking.file()), [0b111, 0b110, 0b100]);
     Ok(())
 }
