@@ -10,8 +10,9 @@ use task::stages::Filed;
 fn layered() -> Result<Filed, Fail> {
     let mut linking = alike(64, 1)?;
     for after in 4..64 {
-        let layer = after / 4 - 1;
-        for before in layer * 4..layer * 4 + 4 {
+        // the first piece of the layer before
+        let first = (after / 4 - 1) * 4;
+        for before in first..first + 4 {
             linking.link(before, after)?;
         }
     }
