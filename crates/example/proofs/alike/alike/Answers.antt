@@ -1,4 +1,4 @@
--- One more piece like those entered, up to one that is refused.
+-- Where a piece is refused, those entered are as many as the turns before.
 use Rattle.std.proofs.Common.{replicate, sym, ◌∙◌, arith}
 use Rattle.std.proofs.lemmas.List.{length-replicate, get_or-replicate, take-replicate}
 use Rattle.std.proofs.lemmas.Result.{err_from_is_err_and}

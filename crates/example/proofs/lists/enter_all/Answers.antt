@@ -1,4 +1,4 @@
--- One more piece behind those entered, up to one that is refused.
+-- Where a piece is refused, those in front of it in the list are entered.
 use Rattle.std.proofs.Common.{get_or, refl}
 use Rattle.std.proofs.lemmas.Result.{err_from_is_err_and}
 use Rattle.example.proofs.Filing.{enter_refused}
