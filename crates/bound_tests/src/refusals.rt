@@ -1,74 +1,51 @@
 // Refusals: cores and scratch at both ends of their limits, which comes first, and that a refused call leaves the scratch.
 use crate::asking::SCRATCH;
 use bound::Bound;
+use example::alike::alike;
 use example::worked::worked_example;
 use std::test::Fail;
-use task::stages::{Entering, Filed};
+use task::stages::Filed;
 
-// The number of a refused bound, and 0 where the task was bounded.
-fn refused(task: &Filed, cores: u32, scratch: &mut [u64]) -> u8 {
-    match Bound::of(task, cores, scratch) {
-        Ok(_) => 0,
-        Err(e) => e.number(),
-    }
-}
-
-// Whether all of the scratch is as it was laid out.
-fn all_sevens(scratch: &[u64]) -> bool {
-    for x in scratch {
-        if *x != 7 {
-            return false;
-        }
-    }
-    true
-}
-
-// Whether a bound is answered so, and leaves a scratch of sevens where it is refused.
-fn answered(task: &Filed, cores: u32, scratch: &mut [u64], number: u8) -> bool {
-    let answer = refused(task, cores, scratch);
-    answer == number && (number == 0 || all_sevens(scratch))
-}
-
-// The same with so much scratch.
-fn answers(task: &Filed, cores: u32, room: usize, number: u8) -> bool {
+// The number that a bound in so much scratch is refused with. A refused call that writes to the scratch fails the test.
+fn refused(task: &Filed, cores: u32, room: usize) -> Result<Option<u8>, Fail> {
     let mut scratch = [7; SCRATCH];
-    if room > SCRATCH {
-        return false;
+    let scratch = scratch.get_mut(..room).ok_or("there is less scratch")?;
+    let Err(refusal) = Bound::of(task, cores, scratch) else {
+        return Ok(None);
+    };
+    if scratch.iter().any(|x| *x != 7) {
+        return Err(Fail::new("a refused call altered the scratch"));
     }
-    answered(task, cores, &mut scratch[0..room], number)
-}
-
-// So many pieces of one tick.
-fn pieces(n: usize) -> Filed {
-    let mut entering = Entering::open();
-    for _ in 0..n {
-        let _ = entering.enter(1);
-    }
-    entering.close().file()
+    Ok(Some(refusal.number()))
 }
 
 #[test]
 fn there_are_1_to_16_cores(rt: HostRuntime) -> Result<(), Fail> {
-    let Ok(task) = worked_example() else {
-        return Err(Fail::new("refused"));
-    };
-    assert!(rt; answers(&task, 1, 64, 0) && answers(&task, 16, 64, 0));
-    assert!(rt;
-        answers(&task, 0, 64, 31) && answers(&task, 17, 64, 31) && answers(&task, u32::MAX, 64, 31)
-    );
-    assert!(rt;
-        answers(&task, 17, 63, 31) && answers(&task, 0, 0, 31),
-        "cores come before scratch"
-    );
+    let task = worked_example()?;
+    for cores in [1, 16] {
+        assert_eq!(rt; refused(&task, cores, 64)?, None);
+    }
+    for cores in [0, 17, u32::MAX] {
+        assert_eq!(rt; refused(&task, cores, 64)?, Some(31));
+    }
+    for (cores, room) in [(17, 63), (0, 0)] {
+        assert_eq!(rt;
+            refused(&task, cores, room)?,
+            Some(31),
+            "cores come before scratch"
+        );
+    }
     Ok(())
 }
 
 #[test]
-fn the_scratch_takes_two_more_than_the_pieces_squared(rt: HostRuntime) {
+fn the_scratch_takes_two_more_than_the_pieces_squared(rt: HostRuntime) -> Result<(), Fail> {
     // pieces, and (pieces + 2) × (pieces + 2)
-    for (n, room) in [(0, 4), (1, 9), (6, 64), (64, 4356)] {
-        let task = pieces(n);
-        assert!(rt; answers(&task, 16, room, 0) && answers(&task, 16, room - 1, 32));
+    for (pieces, room) in [(0, 4), (1, 9), (6, 64), (64, 4356)] {
+        let task = alike(pieces, 1)?.file();
+        assert_eq!(rt; refused(&task, 16, room)?, None);
+        assert_eq!(rt; refused(&task, 16, room - 1)?, Some(32));
     }
-    assert!(rt; answers(&pieces(0), 1, 0, 32));
+    assert_eq!(rt; refused(&alike(0, 1)?.file(), 1, 0)?, Some(32));
+    Ok(())
 }

@@ -1,8 +1,8 @@
 // The worked example on every number of cores.
-use crate::asking::{Five, bounded};
+use crate::asking::bound_on;
+use bound::Bound;
 use example::worked::worked_example;
 use std::test::Fail;
-use task::stages::Filed;
 
 // Ticks, numerator and busy on 1 to 16 cores; the chain is 5 and the volume 15 on all of them.
 const ROWS: [(u32, u32, u32); 16] = [
@@ -24,21 +24,18 @@ const ROWS: [(u32, u32, u32); 16] = [
     (5, 88, 19),
 ];
 
-// Whether every row holds.
-fn all_rows(task: &Filed) -> bool {
-    for (k, (ticks, numerator, busy)) in ROWS.into_iter().enumerate() {
-        if !bounded(task, k as u32 + 1, Five(numerator, ticks, 5, 15, busy)) {
-            return false;
-        }
-    }
-    true
-}
-
 #[test]
 fn the_worked_example_is_bounded(rt: HostRuntime) -> Result<(), Fail> {
-    let Ok(task) = worked_example() else {
-        return Err(Fail::new("refused"));
-    };
-    assert!(rt; all_rows(&task));
+    let task = worked_example()?;
+    for (cores, (ticks, numerator, busy)) in (1..=16).zip(ROWS) {
+        let expected = Bound {
+            numerator,
+            ticks,
+            chain: 5,
+            volume: 15,
+            busy,
+        };
+        assert_eq!(rt; bound_on(&task, cores)?, expected, "on {cores} cores");
+    }
     Ok(())
 }

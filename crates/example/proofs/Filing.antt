@@ -1,5 +1,5 @@
 -- Pieces and edges of a list entered one after the other. Assumes nothing.
-use Rattle.std.proofs.Common.{◌≡◌, ℕ, ◌+◌, ◌<◌, Bool, ◌&&◌, ◌||◌, eqb, List, [], ◌∷◌, ◌++◌, length, get_or, take, drop, Ok, Err, sym, refl, ap, ◌∙◌, subst}
+use Rattle.std.proofs.Common.{◌≡◌, ℕ, ◌+◌, ◌<◌, Bool, ◌&&◌, ◌||◌, eqb, List, [], ◌∷◌, ◌++◌, length, get_or, take, drop, Ok, Err, sym, ap, ◌∙◌, subst}
 use mathlib.Core.Bool.{or-false, or_assoc}
 use Rattle.std.proofs.lemmas.List.{take-append-drop, drop_more, take_more}
 use Rattle.theory.specs.Tasks.{Task}
@@ -15,15 +15,11 @@ use Rattle.task.specs.declared.refusals.RankingRefusal.{RankingRefusal}
 use Rattle.task.specs.declared.refusals.RankingRefusal.TheVariants.{Count}
 use Rattle.example.specs.declared.lists.Edge.{Edge}
 use Rattle.example.specs.declared.lists.Refusal.TheVariants.{Link, Ranking}
-use Rattle.example.specs.Lists.{joins, Joined, Listed, LinkAllSays, FileSays}
+use Rattle.example.specs.Lists.{joins, Joined, Listed, EnterAllSays, LinkAllSays, FileSays}
 
 -- a list at one of its elements
 pub split_at : {X : Type 0} (xs : List X) (i : ℕ) (d : X) → i < length xs → xs ≡ take i xs ++ (get_or xs i d ∷ drop (i + 1) xs)
 split_at xs i d h = sym (take-append-drop i xs) ∙ ap (λ rest. take i xs ++ rest) (drop_more xs i d h)
-
--- one more piece of the list
-pub entered_more : (worsts old new : List ℕ) (i : ℕ) → i < length worsts → old ≡ take i worsts → new ≡ old ++ (get_or worsts i 0 ∷ []) → new ≡ take (i + 1) worsts
-entered_more worsts old new i l front more = more ∙ ap (λ xs. xs ++ (get_or worsts i 0 ∷ [])) front ∙ sym (take_more worsts i 0 l)
 
 -- ---- a refused call alters nothing
 
@@ -39,6 +35,19 @@ link_kept l m x y Circular h = h.3
 pub rank_kept : {P : Type 0} (not_after : P → P → Bool) (l m : Linking) (ps : List P) (e : RankingRefusal) → RankSays not_after l ps (Err e) m → m ≡ l
 rank_kept not_after l m ps Count h = h.1
 
+-- the next of the pieces is refused
+pub enter_refused : (worsts : List ℕ) (a b : Entering) (i w : ℕ) (e : PieceRefusal) → i < length worsts → get_or worsts i 0 ≡ w → entered a ≡ take i worsts
+    → EnterSays a w (Err e) b → EnterAllSays worsts (Err e)
+enter_refused worsts a b i w e l is front said = (
+  take i worsts,
+  w,
+  drop (i + 1) worsts,
+  subst (λ x. worsts ≡ take i worsts ++ (x ∷ drop (i + 1) worsts)) is (split_at worsts i 0 l),
+  a,
+  front,
+  subst (λ x. EnterSays a w (Err e) x) (enter_kept a b w e said) said,
+)
+
 -- ---- one more edge of the list
 
 joins_push : (front : List Edge) (e : Edge) (a b : ℕ) → joins (front ++ (e ∷ [])) a b ≡ (joins front a b || (eqb e.0 a && eqb e.1 b))
@@ -46,9 +55,6 @@ joins_push [] e a b = or-false (eqb e.0 a && eqb e.1 b)
 joins_push (x ∷ rest) e a b =
     ap (λ c. (eqb x.0 a && eqb x.1 b) || c) (joins_push rest e a b)
     ∙ sym (or_assoc (eqb x.0 a && eqb x.1 b) (joins rest a b) (eqb e.0 a && eqb e.1 b))
-
-pub joined_none : (t : Task) → Joined t [] t
-joined_none t = record { pieces = refl; worst = λ k. refl; edge = λ a b. sym (or-false (t.edge a b)); not_after = λ a b. refl }
 
 joined_push : {t s r : Task} (front : List Edge) (e : Edge) → Joined t front s → Linked s e.0 e.1 r → Joined t (front ++ (e ∷ [])) r
 joined_push {t} front e j link = record {

@@ -1,7 +1,7 @@
 -- Tasks given by lists: a worst time for each piece, edges, and a priority for each piece. Assumes nothing.
-use Rattle.std.specs.Prelude.{◌≡◌, ℕ, ◌<◌, Bool, false, ◌&&◌, ◌||◌, List, [], ◌∷◌, ◌++◌, length, Ok, Err, Result, ◌==◌, slice_index, slice_index_or}
+use Rattle.std.specs.Prelude.{◌≡◌, ℕ, ◌<◌, Bool, false, ◌&&◌, ◌||◌, List, [], ◌∷◌, ◌++◌, length, replicate, Ok, Err, Result, ◌==◌, slice_index, slice_index_or}
 use Rattle.theory.specs.Tasks.{Task}
-use Rattle.task.specs.Filing.{entered, linking_task, filed_task, OnTask, EnterSays, LinkSays, RankSays}
+use Rattle.task.specs.Filing.{entered, linking_task, filed_task, OnTask, Closes, EnterSays, LinkSays, RankSays}
 use Rattle.task.specs.Refusals.{piece_number, edge_number, ranking_number}
 use Rattle.task.specs.declared.stages.Entering.{Entering}
 use Rattle.task.specs.declared.stages.Linking.{Linking}
@@ -42,6 +42,11 @@ EnterAllSays worsts (Ok e) = entered e ≡ worsts
 EnterAllSays worsts (Err refusal) =
     (front : List ℕ) × (w : ℕ) × (rest : List ℕ) × (worsts ≡ front ++ (w ∷ rest))
     × (a : Entering) × (entered a ≡ front) × EnterSays a w (Err refusal) a
+
+-- so many pieces of one worst time are closed, or with those in front entered the next is refused
+abbrev pub AlikeSays : ℕ → ℕ → Result Linking PieceRefusal → Type 0
+AlikeSays n worst (Ok l) = Closes (replicate n worst) (linking_task l)
+AlikeSays n worst (Err refusal) = EnterAllSays (replicate n worst) (Err refusal)
 
 -- all edges are there, or with those in front there the next is refused
 abbrev pub LinkAllSays : Linking → List Edge → Result (Unit {0}) EdgeRefusal → Linking → Type 0

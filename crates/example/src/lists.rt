@@ -61,8 +61,8 @@ fn enter_all(worst: &[u32]) -> Result<Entering, PieceRefusal>
     ensures { EnterAllSays worst.now result }
 {
     let mut entering = Entering::open();
-    for w in worst {
-        let _ = entering.enter(*w)?;
+    for &w in worst {
+        let _ = entering.enter(w)?;
     }
     Ok(entering)
 }
@@ -71,8 +71,8 @@ fn enter_all(worst: &[u32]) -> Result<Entering, PieceRefusal>
 fn link_all(linking: &mut Linking, edges: &[Edge]) -> Result<(), EdgeRefusal>
     ensures { LinkAllSays linking.old edges.now result linking.new }
 {
-    for edge in edges {
-        linking.link(edge.0, edge.1)?;
+    for &Edge(before, after) in edges {
+        linking.link(before, after)?;
     }
     Ok(())
 }

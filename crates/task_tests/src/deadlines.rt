@@ -5,7 +5,7 @@ ghost use Rattle.std.proofs.Common.{rules};
 use task::priorities::Priority;
 
 // A tick by which a piece should have ended: the sooner is ahead.
-#[derive(Clone, Copy)]
+#[derive(Clone, Copy, PartialEq, Eq, PartialOrd, Ord)]
 pub struct Deadline {
     pub tick: u32,
 }
@@ -18,6 +18,6 @@ impl Priority for Deadline {
     ghost transitive = { Prim.search rules };
 
     fn not_after(&self, other: &Deadline) -> bool {
-        self.tick <= other.tick
+        self <= other
     }
 }

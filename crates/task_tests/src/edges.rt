@@ -1,32 +1,13 @@
 // Edges: the worked example, each refusal in its order, and ancestors and descendants through several edges.
+use example::alike::alike;
 use example::worked::worked_example;
 use std::test::Fail;
-use task::refusals::EdgeRefusal;
-use task::stages::{Entering, Linking};
-
-// The number of a refused edge, and 0 where it was taken.
-fn refused(r: Result<(), EdgeRefusal>) -> u8 {
-    match r {
-        Ok(()) => 0,
-        Err(e) => e.number(),
-    }
-}
-
-// A task of so many pieces of one tick, with no edges yet.
-fn pieces(n: usize) -> Linking {
-    let mut entering = Entering::open();
-    for _ in 0..n {
-        let _ = entering.enter(1);
-    }
-    entering.close()
-}
 
 #[test]
 fn the_worked_example_is_filed(rt: HostRuntime) -> Result<(), Fail> {
-    let Ok(task) = worked_example() else {
-        return Err(Fail::new("refused"));
-    };
+    let task = worked_example()?;
     assert!(rt; task.pieces() == 6 && task.edges() == 3);
+    // worst time, predecessors, ancestors and not-after set of each piece, and of none
     let rows = [
         (3, 0, 0, 0b110001),
         (2, 0, 0, 0b111111),
@@ -36,36 +17,44 @@ fn the_worked_example_is_filed(rt: HostRuntime) -> Result<(), Fail> {
         (2, 0b1, 0b1, 0b110001),
         (0, 0, 0, 0),
     ];
-    for (k, (worst, predecessors, ancestors, not_after)) in rows.into_iter().enumerate() {
-        assert!(rt; task.worst(k) == worst && task.predecessors(k) == predecessors);
-        assert!(rt; task.ancestors(k) == ancestors && task.not_after(k) == not_after);
+    for (k, row) in rows.into_iter().enumerate() {
+        let filed = (
+            task.worst(k),
+            task.predecessors(k),
+            task.ancestors(k),
+            task.not_after(k),
+        );
+        assert_eq!(rt; filed, row, "piece {k}");
     }
     Ok(())
 }
 
 #[test]
-fn edges_are_refused_in_order(rt: HostRuntime) {
-    let mut linking = pieces(6);
+fn edges_are_refused_in_order(rt: HostRuntime) -> Result<(), Fail> {
+    let mut linking = alike(6, 1)?;
     let edges = [
         // the worked example's edges, and the three that it refuses
-        (0, 4, 0),
-        (0, 5, 0),
-        (1, 3, 0),
-        (4, 0, 23),
-        (0, 4, 22),
-        (6, 0, 21),
+        (0, 4, None),
+        (0, 5, None),
+        (1, 3, None),
+        (4, 0, Some(23)),
+        (0, 4, Some(22)),
+        (6, 0, Some(21)),
         // either end past the task, both, and the largest number
-        (5, 6, 21),
-        (6, 6, 21),
-        (usize::MAX, 0, 21),
+        (5, 6, Some(21)),
+        (6, 6, Some(21)),
+        (usize::MAX, 0, Some(21)),
         // a piece and itself, and a circle through three edges
-        (2, 2, 23),
-        (3, 0, 0),
-        (4, 1, 23),
-        (5, 2, 0),
+        (2, 2, Some(23)),
+        (3, 0, None),
+        (4, 1, Some(23)),
+        (5, 2, None),
     ];
     for (before, after, number) in edges {
-        assert_eq!(rt; refused(linking.link(before, after)), number);
+        assert_eq!(rt;
+            linking.link(before, after).err().map(|e| e.number()),
+            number
+        );
     }
     let task = linking.file();
     assert!(rt; task.edges() == 5 && task.ancestors(4) == 0b1011 && task.ancestors(2) == 0b101011);
@@ -77,19 +66,21 @@ fn edges_are_refused_in_order(rt: HostRuntime) {
     assert!(rt;
         task.successors(2) == 0 && task.descendants(5) == 0b100 && task.descendants(64) == 0
     );
+    Ok(())
 }
 
 #[test]
-fn a_chain_of_64_ends_at_piece_63(rt: HostRuntime) {
-    let mut linking = pieces(64);
+fn a_chain_of_64_ends_at_piece_63(rt: HostRuntime) -> Result<(), Fail> {
+    let mut linking = alike(64, 1)?;
     for k in 0..63 {
-        assert_eq!(rt; refused(linking.link(k, k + 1)), 0);
+        assert_eq!(rt; linking.link(k, k + 1).err().map(|e| e.number()), None);
     }
-    assert_eq!(rt; refused(linking.link(63, 0)), 23);
+    assert_eq!(rt; linking.link(63, 0).err().map(|e| e.number()), Some(23));
     let task = linking.file();
     assert!(rt;
         task.edges() == 63
             && task.ancestors(63) == u64::MAX >> 1
             && task.predecessors(63) == 1 << 62
     );
+    Ok(())
 }

@@ -1,20 +1,18 @@
 // Pieces: worst times at both ends, the 64th and the 65th, and a task without any.
-use task::refusals::PieceRefusal;
 use task::stages::Entering;
-
-// The number of a refused piece, and 0 where it was taken.
-fn refused(r: Result<usize, PieceRefusal>) -> u8 {
-    match r {
-        Ok(_) => 0,
-        Err(e) => e.number(),
-    }
-}
 
 #[test]
 fn worst_times_are_1_to_65535(rt: HostRuntime) {
     let mut entering = Entering::open();
-    for (worst, number) in [(1, 0), (65535, 0), (0, 12), (65536, 12), (u32::MAX, 12)] {
-        assert_eq!(rt; refused(entering.enter(worst)), number);
+    let worsts = [
+        (1, None),
+        (65535, None),
+        (0, Some(12)),
+        (65536, Some(12)),
+        (u32::MAX, Some(12)),
+    ];
+    for (worst, number) in worsts {
+        assert_eq!(rt; entering.enter(worst).err().map(|e| e.number()), number);
     }
     let task = entering.close().file();
     assert!(rt;
@@ -26,12 +24,12 @@ fn worst_times_are_1_to_65535(rt: HostRuntime) {
 fn there_is_no_65th_piece(rt: HostRuntime) {
     let mut entering = Entering::open();
     for k in 0..64 {
-        assert!(rt; matches!(entering.enter(7), Ok(number) if number == k));
+        assert_eq!(rt; entering.enter(7), Ok(k));
     }
-    assert_eq!(rt; refused(entering.enter(7)), 11);
+    assert_eq!(rt; entering.enter(7).err().map(|e| e.number()), Some(11));
     assert_eq!(rt;
-        refused(entering.enter(0)),
-        11,
+        entering.enter(0).err().map(|e| e.number()),
+        Some(11),
         "a full task is refused before the worst time"
     );
     let task = entering.close().file();

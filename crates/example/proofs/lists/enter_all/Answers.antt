@@ -1,34 +1,14 @@
--- One more piece behind those entered, up to one that is refused.
-use Rattle.std.proofs.Common.{◌+◌, get_or, take, drop, Err, ◌∙◌, subst}
-use Rattle.std.proofs.lemmas.List.{take_all}
+-- Where a piece is refused, those in front of it in the list are entered.
+use Rattle.std.proofs.Common.{get_or, refl}
 use Rattle.std.proofs.lemmas.Result.{err_from_is_err_and}
-use Rattle.task.specs.Filing.{entered, EnterSays}
-use Rattle.example.proofs.Filing.{split_at, entered_more, enter_kept}
+use Rattle.example.proofs.Filing.{enter_refused}
 use Rattle.example.proofs.lists.enter_all.Goals as goal
-
-pub loop-w-preserved : goal.loop-w-preserved
-loop-w-preserved c =
-    entered_more c.args.worst.now (entered c.loop-w.entering) (entered c.enter.new.self) c.loop-w.w-index c.loop-w-test.true c.loop-w.invariant
-    c.in_ok-enter.ensures.3
 
 pub returns-in_err-enter : goal.returns-in_err-enter
 returns-in_err-enter c =
     let ws = c.args.worst.now in
     let i = c.loop-w.w-index in
-    let a = c.loop-w.entering in
-    let w = get_or ws i 0 in
-    let e = c.in_err-enter.field-0.0 in
-    let said = c.in_err-enter.ensures in
     let p = err_from_is_err_and c.from_residual.result c.from_residual.ensures.1 in
-    rw (p.1, p.2) (
-      take i ws,
-      w,
-      drop (i + 1) ws,
-      split_at ws i 0 c.loop-w-test.true,
-      a,
-      c.loop-w.invariant,
-      subst (λ b. EnterSays a w (Err e) b) (enter_kept a c.enter.new.self w e said) said,
-    )
-
-pub returns : goal.returns
-returns c = c.loop-w.invariant ∙ take_all c.loop-w.w-index c.args.worst.now c.loop-w-test.false
+    rw (p.1, p.2)
+    (enter_refused ws c.loop-w.entering c.enter.new.self i (get_or ws i 0) c.in_err-enter.field-0.0 c.loop-w-test.true refl c.loop-w.invariant
+    c.in_err-enter.ensures)

@@ -1,24 +1,20 @@
 -- One more edge behind those entered, up to one that is refused.
 use Rattle.std.proofs.Common.{◌+◌, get_or, take, drop, Err, sym, subst}
-use Rattle.std.proofs.lemmas.List.{take_all}
 use Rattle.std.proofs.lemmas.Result.{err_from_is_err_and}
 use Rattle.task.specs.Filing.{linking_task, LinkSays}
 use Rattle.example.specs.Lists.{Joined}
-use Rattle.example.proofs.Filing.{split_at, link_kept, joined_none, joined_more}
+use Rattle.example.proofs.Filing.{split_at, link_kept, joined_more}
 use Rattle.example.proofs.lists.link_all.Goals as goal
 
-pub loop-edge-init : goal.loop-edge-init
-loop-edge-init c = joined_none (linking_task c.args.linking.now)
-
-pub loop-edge-preserved : goal.loop-edge-preserved
-loop-edge-preserved c =
-    joined_more c.args.edges.now c.loop-edge.edge-index (0, 0) c.loop-edge-test.true c.loop-edge.invariant c.in_ok-link.ensures.3
+pub loop-before-preserved : goal.loop-before-preserved
+loop-before-preserved c =
+    joined_more c.args.edges.now c.loop-before.before-index (0, 0) c.loop-before-test.true c.loop-before.invariant c.in_ok-link.ensures.3
 
 pub returns-in_err-link : goal.returns-in_err-link
 returns-in_err-link c =
     let edges = c.args.edges.now in
-    let i = c.loop-edge.edge-index in
-    let l = c.loop-edge.linking in
+    let i = c.loop-before.before-index in
+    let l = c.loop-before.linking in
     let m = c.link.new.self in
     let edge = get_or edges i (0, 0) in
     let e = c.in_err-link.field-0.0 in
@@ -29,12 +25,7 @@ returns-in_err-link c =
       take i edges,
       edge,
       drop (i + 1) edges,
-      split_at edges i (0, 0) c.loop-edge-test.true,
-      subst (λ x. Joined (linking_task c.args.linking.now) (take i edges) (linking_task x)) (sym same) c.loop-edge.invariant,
+      split_at edges i (0, 0) c.loop-before-test.true,
+      subst (λ x. Joined (linking_task c.args.linking.now) (take i edges) (linking_task x)) (sym same) c.loop-before.invariant,
       subst (λ x. LinkSays x edge.0 edge.1 (Err e) m) (sym same) said,
     )
-
-pub returns : goal.returns
-returns c =
-    subst (λ front. Joined (linking_task c.args.linking.now) front (linking_task c.loop-edge.linking))
-    (take_all c.loop-edge.edge-index c.args.edges.now c.loop-edge-test.false) c.loop-edge.invariant
