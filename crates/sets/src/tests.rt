@@ -1,5 +1,8 @@
 // Sets on a few masks, at both ends of the pieces there are.
-use crate::{Levelled, first, has, pieces_of, size, with, without};
+use crate::{
+    Levelled, filtered, first, has, largest_over, pieces_of, size, sum_over, table_of, with,
+    without,
+};
 
 #[test]
 fn sets_are_their_bits(rt: HostRuntime) {
@@ -30,4 +33,17 @@ fn pieces_stand_at_their_levels(rt: HostRuntime) {
     levels.put(3, 64);
     assert!(rt; levels.at(0) == 1 << 63 && levels.at(64) == 0b100001);
     assert!(rt; levels.at(3) == 0 && levels.at(65) == 0);
+}
+
+#[test]
+fn closures_go_over_the_pieces(rt: HostRuntime) {
+    assert_eq!(rt; filtered(0b1011, |k| k != 1), 0b1001);
+    assert_eq!(rt; filtered(1 << 63, |k| k == 63), 1 << 63);
+    assert!(rt; largest_over(0b1101, |k| 100 - k as u64) == 100 && largest_over(0, |_| 7) == 0);
+    assert_eq!(rt; sum_over(1 << 63 | 0b101, |k| k as u32), 65);
+    assert_eq!(rt; sum_over(u64::MAX, |_| u32::MAX), 64 * u32::MAX as u64);
+    let table = table_of(3, |k| first(k));
+    assert!(rt; table[0] == 0 && table[1] == 1 && table[2] == 3 && table[3] == 0 && table[63] == 0);
+    let levels = Levelled::by_size(0b110, |k| first(k));
+    assert!(rt; levels.at(0) == 0 && levels.at(1) == 2 && levels.at(2) == 4 && levels.at(3) == 0);
 }
