@@ -1,0 +1,41 @@
+-- Each turn writes the row of one more piece that leads to v.
+use Rattle.std.proofs.Common.{◌≡◌, ◌&&◌, sym, ap, ◌∙◌}
+use Rattle.sets.proofs.Iterating.{passed, within_none, within_more, passed_none, passed_all}
+use Rattle.task.proofs.Filed.{filed_lawful}
+use Rattle.numerator.specs.Joints.{task_at}
+use Rattle.numerator.proofs.Placing.{wrote_none, wrote_same}
+use Rattle.numerator.proofs.Rows.{rows_ready, rows_turn}
+use Rattle.numerator.proofs.setting.joining.Joint.all.Goals as goal
+
+pub loop-u-init : goal.loop-u-init
+loop-u-init c =
+    let j = c.args.self.now in
+    let start : c.into_iter-u-iterator.result.rest ≡ j.before = ap (λ p. p.rest) c.into_iter-u-iterator.ensures.into_iter_gives ∙ c.pieces_of-u-items.ensures in
+    record { inside = within_none j.before _ start; wrote = wrote_none (λ a b. ap (λ x. x && (task_at j).ancestor j.v b) (passed_none j.before _ start a)) }
+
+pub row-requires : goal.row-requires
+row-requires c =
+    let j = c.args.self.now in
+    let u = c.in-Some.u in
+    record {
+      to = sym (j.leading u) ∙ c.loop-u.invariant.inside u c.in-Some.ensures.steps.1.0;
+      ready = rows_ready (filed_lawful j.setting.now.task) j.setting.now.cores j.v j.before j.leading c.loop-u.u-iterator.rest c.loop-u.invariant.wrote c.requires;
+    }
+
+pub loop-u-preserved : goal.loop-u-preserved
+loop-u-preserved c =
+    let j = c.args.self.now in
+    let rest = c.loop-u.u-iterator.rest in
+    let next = c.next.new.self.rest in
+    let taken = c.in-Some.ensures.steps in
+    let u = c.in-Some.u in
+    record {
+      inside = within_more j.before rest next u c.loop-u.invariant.inside taken.1.0 taken.2;
+      wrote = rows_turn (filed_lawful j.setting.now.task) j.setting.now.cores j.v j.before j.leading rest c.loop-u.invariant.wrote next u
+          c.loop-u.invariant.inside taken.1.0 taken.2 c.row.ensures;
+    }
+
+pub returns : goal.returns
+returns c =
+    let j = c.args.self.now in
+    wrote_same (λ a b. ap (λ x. x && (task_at j).ancestor j.v b) (passed_all j.before c.loop-u.u-iterator.rest c.in-None.ensures.steps.0 a ∙ j.leading a)) c.loop-u.invariant.wrote
