@@ -3,11 +3,8 @@ use Rattle.std.proofs.Common.{◌≡◌, ℕ, ◌+◌, ◌<◌, ◌≤◌, true,
 use mathlib.Core.Bool.{and-true}
 use Rattle.std.proofs.lemmas.Bool.{both_ways, cases_lt, and_left, and_right, eqb-true, eq-eqb, ne_eqb}
 use Rattle.sets.specs.Sets.{member, SetOf, Without}
-use Rattle.sets.specs.Levels.{level_of, ByKey}
-use Rattle.sets.specs.declared.levels.Levelled.{Levelled}
 use Rattle.sets.proofs.Members.{member-zero, set_true, true_set}
 use Rattle.sets.proofs.Iterating.{Within}
-use Rattle.sets.proofs.Levelling.{by_key_at}
 use Rattle.theory.specs.Tasks.{Task, Lawful}
 use Rattle.theory.specs.Inner.{Best, stepped}
 use Rattle.theory.proofs.Eliminating.{eliminated, best_same}
@@ -22,10 +19,8 @@ use Rattle.numerator.proofs.Rows.{all_stepped}
 abbrev pub Taken : Task → ℕ → ℕ → ℕ → Type 0
 Taken t level rest x = (x < t.pieces) × ((rank t x < level) ⊎ ((rank t x ≡ level) × (member rest x ≡ false)))
 
-module _ {t : Task} (law : Lawful t) (cores : ℕ) (levels : Levelled) (sorted : ByKey (rank t) t.pieces levels) (level set : ℕ) (same : set ≡ level_of levels level) where
-  at : SetOf t.pieces (λ j. eqb (rank t j) level) set
-  at = by_key_at (rank t) t.pieces level set levels sorted same
-
+-- the set of the pieces of a level
+module _ {t : Task} (law : Lawful t) (cores level set : ℕ) (at : SetOf t.pieces (λ j. eqb (rank t j) level) set) where
   -- before the first only those ahead are taken
   pub taking_start : (M : ℕ → ℕ → ℕ) (rest : ℕ) → rest ≡ set → Best t cores (Ahead t level) M → Best t cores (Taken t level rest) M
   taking_start M rest e =

@@ -1,5 +1,5 @@
 // A piece that walks are joined at: allowing them to go through it changes the cells of what leads to it with what it leads to.
-ghost use Rattle.std.specs.Prelude.{◌≡◌, ℕ};
+ghost use Rattle.std.specs.Prelude.{◌≡◌, ℕ, ◌≤◌};
 ghost use Rattle.sets.specs.Sets.{member};
 ghost use Rattle.theory.specs.Inner.{alone as alone_at};
 ghost use Rattle.numerator.specs.Settings.{task_in, Piece};
@@ -19,6 +19,7 @@ pub(super) struct Joint<'s> {
     behind: u64,
     ghost piece: { Piece setting.now v },
     ghost alone: { own ≡ alone_at (task_in setting.now) setting.now.cores v },
+    ghost small: { own ≤ 5242800 },
     ghost leading: { (x : ℕ) → member before x ≡ (task_in setting.now).ancestor x v },
     ghost led: { (x : ℕ) → member behind x ≡ (task_in setting.now).ancestor v x },
 }

@@ -1,5 +1,5 @@
 -- The edges, all pieces taken, and the largest: the numerator of the task.
-use Rattle.std.proofs.Common.{◌≡◌, ℕ, ◌+◌, ◌*◌, ◌<◌, ◌≤◌, length, sym, ap, ◌∙◌, subst, arith}
+use Rattle.std.proofs.Common.{◌≡◌, ℕ, ◌+◌, ◌*◌, ◌≤◌, length, ap, subst, arith}
 use Rattle.theory.specs.Paths.{Numerator}
 use Rattle.theory.specs.Inner.{Greatest}
 use Rattle.theory.proofs.Sizes.{numerator_small}

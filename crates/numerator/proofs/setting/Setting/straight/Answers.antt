@@ -1,8 +1,7 @@
 -- The cores times both worst times, and the volume of both interference sets; nothing where there is no edge.
-use Rattle.std.proofs.Common.{◌≡◌, ℕ, ◌*◌, ◌<◌, true, [], sym, ap, ◌∙◌, arith}
-use Rattle.std.proofs.lemmas.Bool.{cond-true, cond-false}
+use Rattle.std.proofs.Common.{◌≡◌, ℕ, ◌*◌, true, [], sym, ap, ◌∙◌, arith}
+use Rattle.std.proofs.lemmas.Bool.{cond-true}
 use Rattle.theory.specs.Inner.{weight}
-use Rattle.theory.proofs.Sizes.{product_small}
 use Rattle.task.proofs.Filed.{filed_lawful, worst_is}
 use Rattle.numerator.specs.Settings.{task_in}
 use Rattle.numerator.proofs.Relatives.{predecessors_are}

@@ -1,6 +1,6 @@
 -- A place lies within the cells.
 use Rattle.std.proofs.Common.{arith}
-use Rattle.numerator.proofs.Placing.{place_within, place_few, cell_at, cell_past}
+use Rattle.numerator.proofs.Placing.{place_within, place_few}
 use Rattle.numerator.proofs.table.Table.get.Goals as goal
 
 pub offset_bounds-self-place : goal.offset_bounds-self-place

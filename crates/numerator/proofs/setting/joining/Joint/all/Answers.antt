@@ -1,6 +1,6 @@
 -- Each turn writes the row of one more piece that leads to v.
 use Rattle.std.proofs.Common.{◌≡◌, ◌&&◌, sym, ap, ◌∙◌}
-use Rattle.sets.proofs.Iterating.{passed, within_none, within_more, passed_none, passed_all}
+use Rattle.sets.proofs.Iterating.{within_none, within_more, passed_none, passed_all}
 use Rattle.task.proofs.Filed.{filed_lawful}
 use Rattle.numerator.specs.Joints.{task_at}
 use Rattle.numerator.proofs.Placing.{wrote_none, wrote_same}

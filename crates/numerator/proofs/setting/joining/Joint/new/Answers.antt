@@ -9,6 +9,7 @@ invariant_of-result c =
     record {
       piece = c.requires;
       alone = c.alone.ensures.value;
+      small = c.alone.ensures.small;
       leading = ancestors_are law c.args.v c.ancestors.result c.ancestors.ensures.set;
       led = descendants_are law c.args.v c.descendants.result c.descendants.ensures;
     }

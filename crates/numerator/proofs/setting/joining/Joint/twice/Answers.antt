@@ -1,44 +1,23 @@
 -- What meets v is counted by own, and what meets both ends but not v is added to it.
-use Rattle.std.proofs.Common.{◌^◌, ◌<◌, ◌≤◌, get_or, arith}
+use Rattle.std.proofs.Common.{◌^◌, ◌<◌, get_or, arith}
 use Rattle.theory.proofs.Ancestors.{ancestor_ends}
-use Rattle.theory.proofs.Sizes.{product_small, volume_small}
-use Rattle.theory.specs.Paths.{interferes}
 use Rattle.task.proofs.Filed.{filed_lawful}
 use Rattle.numerator.specs.Joints.{task_at}
+use Rattle.numerator.proofs.Relatives.{ancestor_low}
 use Rattle.numerator.proofs.Weighing.{volume_shared}
 use Rattle.numerator.proofs.setting.joining.Joint.twice.Goals as goal
 
 pub offset_bounds-meets-u : goal.offset_bounds-meets-u
-offset_bounds-meets-u c =
-    let law = filed_lawful c.args.self.now.setting.now.task in
-    omega (arith, law.few, (ancestor_ends law c.args.u c.args.self.now.v c.requires.to).0)
+offset_bounds-meets-u c = omega (arith, (ancestor_low (filed_lawful c.args.self.now.setting.now.task) c.args.u c.args.self.now.v c.requires.to).0)
 
 pub bounds-meets-u : goal.bounds-meets-u
-bounds-meets-u c =
-    let law = filed_lawful c.args.self.now.setting.now.task in
-    omega (arith, law.few, (ancestor_ends law c.args.u c.args.self.now.v c.requires.to).0)
+bounds-meets-u c = (ancestor_low (filed_lawful c.args.self.now.setting.now.task) c.args.u c.args.self.now.v c.requires.to).0
 
 pub offset_bounds-meets-w : goal.offset_bounds-meets-w
-offset_bounds-meets-w c =
-    let law = filed_lawful c.args.self.now.setting.now.task in
-    omega (arith, law.few, (ancestor_ends law c.args.self.now.v c.args.w c.requires.on).1)
+offset_bounds-meets-w c = omega (arith, (ancestor_low (filed_lawful c.args.self.now.setting.now.task) c.args.self.now.v c.args.w c.requires.on).1)
 
 pub bounds-meets-w : goal.bounds-meets-w
-bounds-meets-w c =
-    let law = filed_lawful c.args.self.now.setting.now.task in
-    omega (arith, law.few, (ancestor_ends law c.args.self.now.v c.args.w c.requires.on).1)
-
-pub overflow_add-result : goal.overflow_add-result
-overflow_add-result c =
-    let j = c.args.self.now in
-    let s = j.setting.now in
-    omega (
-      arith,
-      c.work.ensures.small,
-      j.alone,
-      product_small (filed_lawful s.task) s.cores j.v s.most j.piece,
-      volume_small (filed_lawful s.task) (interferes (task_at j) j.v),
-    )
+bounds-meets-w c = (ancestor_low (filed_lawful c.args.self.now.setting.now.task) c.args.self.now.v c.args.w c.requires.on).1
 
 pub returns : goal.returns
 returns c =
