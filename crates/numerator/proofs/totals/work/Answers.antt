@@ -7,11 +7,6 @@ use Rattle.task.proofs.Filed.{filed_lawful}
 use Rattle.numerator.proofs.Adding.{time, volume_over, over_small}
 use Rattle.numerator.proofs.totals.work.Goals as goal
 
-pub loop-k-init : goal.loop-k-init
-loop-k-init c =
-    let start : c.into_iter-k-iterator.result.rest ≡ c.args.set = ap (λ p. p.rest) c.into_iter-k-iterator.ensures.into_iter_gives ∙ c.pieces_of-k-items.ensures in
-    omega (arith, ap (λ (s : ℕ). sum_over s (time (filed_task c.args.task.now))) start)
-
 -- what the piece adds is taken from what is to come
 step : (c : goal.After-worst) → sum_over c.loop-k.k-iterator.rest (time (filed_task c.args.task.now))
     ≡ sum_over c.next.new.self.rest (time (filed_task c.args.task.now)) + c.worst.result

@@ -1,18 +1,13 @@
 -- Each turn takes in the walks from one more ancestor of w.
-use Rattle.std.proofs.Common.{◌≡◌, sym, ap, ◌∙◌, arith}
-use Rattle.sets.proofs.Iterating.{passed, passed_none, passed_more, passed_all, within_none, within_more}
-use Rattle.sets.proofs.Bests.{largest_none, largest_more, largest_same}
+use Rattle.std.proofs.Common.{sym, ◌∙◌, arith}
+use Rattle.sets.proofs.Iterating.{passed, passed_more, passed_all, within_more}
+use Rattle.sets.proofs.Bests.{largest_more, largest_same}
 use Rattle.task.proofs.Filed.{filed_lawful}
 use Rattle.numerator.specs.Cells.{entry}
 use Rattle.numerator.specs.Settings.{task_in}
 use Rattle.numerator.proofs.Relatives.{ancestors_are}
 use Rattle.numerator.proofs.Stepping.{entry_read}
 use Rattle.numerator.proofs.setting.Setting.arriving.Goals as goal
-
-pub loop-u-init : goal.loop-u-init
-loop-u-init c =
-    let start : c.into_iter-u-iterator.result.rest ≡ c.ancestors-before.result = ap (λ p. p.rest) c.into_iter-u-iterator.ensures.into_iter_gives ∙ c.pieces_of-u-items.ensures in
-    (within_none c.ancestors-before.result _ start, largest_none _ _ (passed_none c.ancestors-before.result _ start))
 
 pub loop-u-preserved : goal.loop-u-preserved
 loop-u-preserved c =

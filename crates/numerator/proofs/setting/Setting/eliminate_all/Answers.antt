@@ -6,12 +6,6 @@ use Rattle.numerator.specs.Settings.{task_in}
 use Rattle.numerator.proofs.Taking.{taken_all}
 use Rattle.numerator.proofs.setting.Setting.eliminate_all.Goals as goal
 
-pub eliminate_level-requires : goal.eliminate_level-requires
-eliminate_level-requires c = record { sorted = c.by_rank-levels.ensures; ahead = c.loop-level.invariant }
-
-pub loop-level-preserved : goal.loop-level-preserved
-loop-level-preserved c = c.eliminate_level.ensures
-
 pub returns : goal.returns
 returns c =
     let s = c.args.self.now in

@@ -8,7 +8,7 @@ use Rattle.numerator.specs.Settings.{task_in, rank}
 use Rattle.numerator.specs.declared.setting.Setting.{Setting}
 use Rattle.numerator.specs.declared.table.Table.{Table}
 use Rattle.theory.specs.Inner.{stepped}
-use Rattle.numerator.proofs.Taking.{taking_start, taking_end, taking_piece, taking_ready, taking_turn}
+use Rattle.numerator.proofs.Taking.{taking_start, taking_end, taking_ready, taking_turn}
 use Rattle.numerator.proofs.setting.Setting.eliminate_level.Goals as goal
 
 pub loop-v-init : goal.loop-v-init
@@ -20,14 +20,6 @@ loop-v-init c =
       taking_start (filed_lawful s.task) s.cores c.args.level c.at-set.result at (entry (task_in s) c.args.table.now) _ start
           c.requires.ahead,
     )
-
-pub new-requires : goal.new-requires
-new-requires c =
-    let s = c.args.self.now in
-    let at = by_key_at (rank (task_in s)) (task_in s).pieces c.args.level c.at-set.result c.args.levels.now c.requires.sorted c.at-set.ensures in
-    let taken = c.in-Some.ensures.steps in
-    (taking_piece (filed_lawful s.task) s.cores c.args.level c.at-set.result at c.loop-v.v-iterator.rest c.next.new.self.rest c.in-Some.v
-    c.loop-v.invariant.0 taken.1.0 taken.2).0
 
 -- the joint is that of the setting at the piece
 module _ {r s : Setting} {x v : ℕ} (setting : r ≡ s) (piece : x ≡ v) (old new : Table) where

@@ -1,18 +1,13 @@
 -- Each turn writes one more column.
-use Rattle.std.proofs.Common.{◌<◌, ◌&&◌, ltb, refl, ap, arith}
-use Rattle.std.proofs.lemmas.Bool.{le-ltb, lt-ltb}
+use Rattle.std.proofs.Common.{◌<◌, ltb, refl, arith}
+use Rattle.std.proofs.lemmas.Bool.{lt-ltb}
 use Rattle.theory.proofs.Ancestors.{ancestor_ends}
 use Rattle.task.proofs.Filed.{filed_lawful}
 use Rattle.numerator.specs.Settings.{task_in}
 use Rattle.numerator.proofs.Relatives.{implied}
-use Rattle.numerator.proofs.Placing.{wrote_none, wrote_same, wrote_join}
+use Rattle.numerator.proofs.Placing.{wrote_same, wrote_join}
 use Rattle.numerator.proofs.Lines.{up_to}
 use Rattle.numerator.proofs.setting.Setting.fill.Goals as goal
-
-pub loop-w-init : goal.loop-w-init
-loop-w-init c =
-    let t = task_in c.args.self.now in
-    wrote_none (λ a b. ap (λ x. x && t.ancestor a b) (le-ltb b 0 (omega arith)))
 
 pub loop-w-preserved : goal.loop-w-preserved
 loop-w-preserved c =

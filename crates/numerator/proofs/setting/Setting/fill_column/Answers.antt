@@ -1,20 +1,14 @@
 -- Each turn writes the cell of one more ancestor of w.
-use Rattle.std.proofs.Common.{◌≡◌, ◌&&◌, eqb, ap, ◌∙◌}
+use Rattle.std.proofs.Common.{◌&&◌, eqb, ap, ◌∙◌}
 use mathlib.Core.Bool.{and_comm}
 use Rattle.std.proofs.lemmas.Bool.{eqb-true}
 use Rattle.sets.specs.Sets.{member}
-use Rattle.sets.proofs.Iterating.{within_none, within_more}
+use Rattle.sets.proofs.Iterating.{within_more}
 use Rattle.task.proofs.Filed.{filed_lawful}
 use Rattle.numerator.specs.Settings.{task_in}
 use Rattle.numerator.proofs.Relatives.{ancestors_are}
-use Rattle.numerator.proofs.Lines.{and_under, line_start, line_turn, line_end}
+use Rattle.numerator.proofs.Lines.{and_under, line_turn, line_end}
 use Rattle.numerator.proofs.setting.Setting.fill_column.Goals as goal
-
-pub loop-u-init : goal.loop-u-init
-loop-u-init c =
-    let before = c.ancestors-before.result in
-    let start : c.into_iter-u-iterator.result.rest ≡ before = ap (λ p. p.rest) c.into_iter-u-iterator.ensures.into_iter_gives ∙ c.pieces_of-u-items.ensures in
-    record { inside = within_none before _ start; wrote = line_start (λ a b. eqb c.args.w b) (λ a b. a) before _ start }
 
 pub loop-u-preserved : goal.loop-u-preserved
 loop-u-preserved c =

@@ -1,14 +1,11 @@
 -- Each turn takes in one more piece and the walks that end there.
-use Rattle.std.proofs.Common.{◌≡◌, ℕ, max, refl, ap, ◌∙◌, subst, inl, arith}
+use Rattle.std.proofs.Common.{◌≡◌, ℕ, max, ap, ◌∙◌, subst, arith}
 use Rattle.task.proofs.Filed.{filed_lawful}
 use Rattle.numerator.specs.Cells.{entry}
 use Rattle.numerator.specs.Settings.{task_in}
 use Rattle.numerator.proofs.Stepping.{entry_none}
 use Rattle.numerator.proofs.Peaks.{Peak, peak_more, peak_all}
 use Rattle.numerator.proofs.setting.Setting.greatest.Goals as goal
-
-pub loop-w-init : goal.loop-w-init
-loop-w-init c = (λ v l. absurd (omega arith), λ u w hu l. absurd (omega arith), inl refl)
 
 pub loop-w-preserved : goal.loop-w-preserved
 loop-w-preserved c =

@@ -1,17 +1,11 @@
 -- Each turn writes the row of one more piece that leads to v.
-use Rattle.std.proofs.Common.{◌≡◌, ◌&&◌, sym, ap, ◌∙◌}
-use Rattle.sets.proofs.Iterating.{within_none, within_more, passed_none, passed_all}
+use Rattle.std.proofs.Common.{◌&&◌, sym, ap, ◌∙◌}
+use Rattle.sets.proofs.Iterating.{within_more, passed_all}
 use Rattle.task.proofs.Filed.{filed_lawful}
 use Rattle.numerator.specs.Joints.{task_at}
-use Rattle.numerator.proofs.Placing.{wrote_none, wrote_same}
+use Rattle.numerator.proofs.Placing.{wrote_same}
 use Rattle.numerator.proofs.Rows.{rows_ready, rows_turn}
 use Rattle.numerator.proofs.setting.joining.Joint.all.Goals as goal
-
-pub loop-u-init : goal.loop-u-init
-loop-u-init c =
-    let j = c.args.self.now in
-    let start : c.into_iter-u-iterator.result.rest ≡ j.before = ap (λ p. p.rest) c.into_iter-u-iterator.ensures.into_iter_gives ∙ c.pieces_of-u-items.ensures in
-    record { inside = within_none j.before _ start; wrote = wrote_none (λ a b. ap (λ x. x && (task_at j).ancestor j.v b) (passed_none j.before _ start a)) }
 
 pub row-requires : goal.row-requires
 row-requires c =

@@ -1,10 +1,10 @@
 -- Each turn writes the cell of u with one more piece that v leads to; what it goes by was not written before.
 use Rattle.std.proofs.Common.{◌≡◌, ℕ, ◌+◌, ◌-◌, max, true, ◌&&◌, eqb, sym, ap, ◌∙◌, arith}
-use Rattle.sets.proofs.Iterating.{within_none, within_more}
+use Rattle.sets.proofs.Iterating.{within_more}
 use Rattle.theory.proofs.Ancestors.{ancestor_ends}
 use Rattle.task.proofs.Filed.{filed_lawful}
 use Rattle.numerator.specs.Joints.{task_at}
-use Rattle.numerator.proofs.Lines.{line_start, line_end}
+use Rattle.numerator.proofs.Lines.{line_end}
 use Rattle.numerator.proofs.Stepping.{entry_read, joined_is}
 use Rattle.numerator.proofs.Rows.{row_stays, row_to, row_ready, row_turn, row_skips}
 use Rattle.numerator.proofs.setting.joining.Joint.row.Goals as goal
@@ -13,12 +13,6 @@ pub returns-then-to-eq0 : goal.returns-then-to-eq0
 returns-then-to-eq0 c =
     let j = c.args.self.now in
     row_stays (filed_lawful j.setting.now.task) j.setting.now.cores c.args.u j.v c.requires.to j.behind j.led c.args.table.now (sym c.get-to.ensures ∙ c.if-to-eq0.true)
-
-pub loop-w-init : goal.loop-w-init
-loop-w-init c =
-    let j = c.args.self.now in
-    let start : c.into_iter-w-iterator.result.rest ≡ j.behind = ap (λ p. p.rest) c.into_iter-w-iterator.ensures.into_iter_gives ∙ c.pieces_of-w-items.ensures in
-    record { inside = within_none j.behind _ start; wrote = line_start (λ a b. eqb c.args.u a) (λ a b. b) j.behind _ start }
 
 pub loop-w-preserved-then-on-eq0 : goal.loop-w-preserved-then-on-eq0
 loop-w-preserved-then-on-eq0 c =
@@ -51,11 +45,6 @@ overflow_add-to c =
       entry_read t c.loop-w.table j.v w on,
       (row_ready law j.setting.now.cores u j.v c.requires.to j.behind j.led c.loop-w.w-iterator.rest c.loop-w.invariant.wrote c.requires.ready w (ancestor_ends law j.v w on).1).1,
     )
-
-pub twice-requires : goal.twice-requires
-twice-requires c =
-    let j = c.args.self.now in
-    record { to = c.requires.to; on = sym (j.led c.in-Some.w) ∙ c.loop-w.invariant.inside c.in-Some.w c.in-Some.ensures.steps.1.0 }
 
 pub loop-w-preserved : goal.loop-w-preserved
 loop-w-preserved c =
