@@ -4,10 +4,10 @@ use mathlib.Core.Bool.{and-false}
 use Rattle.std.proofs.lemmas.Bool.{and_parts, eqb-true}
 use Rattle.std.proofs.lemmas.Bool.Decides.{nat_tests}
 use Rattle.sets.specs.Sets.{member, Without}
-use Rattle.sets.proofs.Iterating.{passed, Within, passed_none, passed_more, passed_all}
+use Rattle.sets.proofs.Iterating.{passed, Within, passed_more, passed_all}
 use Rattle.numerator.specs.Cells.{Wrote}
 use Rattle.numerator.specs.declared.table.Table.{Table}
-use Rattle.numerator.proofs.Placing.{wrote_none, wrote_same, wrote_join}
+use Rattle.numerator.proofs.Placing.{wrote_same, wrote_join}
 
 spread : (f p e : Bool) → (f && (p || e)) ≡ ((f && p) || (f && e))
 spread true p e = refl
@@ -36,9 +36,6 @@ module _ (line : ℕ → ℕ → Bool) (pick : ℕ → ℕ → ℕ) (set : ℕ) 
   gone rest a b = line a b && passed set rest (pick a b)
 
   module _ {f : ℕ → ℕ → ℕ} where
-    pub line_start : {m : Table} (rest : ℕ) → rest ≡ set → Wrote (gone rest) f m m
-    line_start rest e = wrote_none (λ a b. ap (λ x. line a b && x) (passed_none set rest e (pick a b)) ∙ and-false (line a b))
-
     -- a turn writes the cell of one more piece of the set
     pub line_turn : {old cur new : Table} (rest next k u w value : ℕ) → Within rest set → member rest k ≡ true → Without rest k next
         → value ≡ f u w → ((a b : ℕ) → (line a b && eqb k (pick a b)) ≡ (eqb u a && eqb w b))

@@ -46,9 +46,6 @@ module _ (m : Table) (u w : ℕ) where
       cond-false (ltb u m.pieces && ltb w m.pieces) _ 0
       (⊎_elim (λ l. and_left (ltb u m.pieces) (ltb w m.pieces) (le-ltb u m.pieces l)) (λ l. and_right (ltb u m.pieces) (ltb w m.pieces) (le-ltb w m.pieces l)) past)
 
-  pub cell_past : (Inside m u w → ⊥) → cell m u w ≡ 0
-  cell_past off = ⊎_elim (λ inside. absurd (off inside)) cell_beyond cases_inside
-
 -- a table of the same size, of which the cells of the table are the same, has the same cells
 pub cell_same : (old cur : Table) (a b : ℕ) → cur.pieces ≡ old.pieces → (Inside old a b → cell cur a b ≡ cell old a b) → cell cur a b ≡ cell old a b
 cell_same old cur a b same on =
@@ -88,10 +85,6 @@ wrote_one old new u w place value inside e same is = record { same = same; cells
                 both_ways (eqb u a && eqb w b) h (and_from (eqb u a) (eqb w b) (eq-eqb u a (sym pair.0)) (eq-eqb w b (sym pair.1)))
 
 module _ {p : ℕ → ℕ → Bool} {f : ℕ → ℕ → ℕ} where
-  -- nothing is written yet
-  pub wrote_none : {m : Table} → ((a b : ℕ) → p a b ≡ false) → Wrote p f m m
-  wrote_none {m} none = record { same = refl; cells = λ a b _ _. sym (ap (λ x. cond x (f a b) (cell m a b)) (none a b)) }
-
   -- tests that agree on all pairs write the same
   pub wrote_same : {q : ℕ → ℕ → Bool} {old new : Table} → ((a b : ℕ) → p a b ≡ q a b) → Wrote p f old new → Wrote q f old new
   wrote_same {q} {old} {new} same w = record { same = w.same; cells = λ a b ha hb. w.cells a b ha hb ∙ ap (λ x. cond x (f a b) (cell old a b)) (same a b) }
