@@ -9,7 +9,10 @@ use Rattle.theory.specs.Tasks.{Task, Lawful}
 use Rattle.theory.specs.Inner.{straight, stepped, Best}
 use Rattle.theory.proofs.Ancestors.{ancestor_one, ancestor_join, ancestor_apart}
 use Rattle.theory.proofs.Eliminating.{begun}
+use Rattle.task.proofs.Filed.{filed_lawful}
 use Rattle.numerator.specs.Cells.{cell, Wrote, entry, Ready}
+use Rattle.numerator.specs.Joints.{task_at, through, RowThrough}
+use Rattle.numerator.specs.declared.setting.joining.Joint.{Joint}
 use Rattle.numerator.specs.declared.table.Table.{Table}
 use Rattle.numerator.proofs.Placing.{unwritten, wrote_still, wrote_join, cases_inside, cell_beyond}
 use Rattle.numerator.proofs.Lines.{line_turn, at_pair}
@@ -23,81 +26,87 @@ same_entry t old cur a b e = ap (λ x. cond (t.ancestor a b) x 0) e
 not_passed : (set rest k : ℕ) → member rest k ≡ true → passed set rest k ≡ false
 not_passed set rest k here = ap (λ b. member set k && not b) here ∙ and-false (member set k)
 
-module _ (t : Task) (cores v : ℕ) {old cur : Table} {p : ℕ → ℕ → Bool} (wrote : Wrote p (stepped t cores (entry t old) v) old cur)
-    (off_row : (b : ℕ) → p v b ≡ false) (off_column : (a : ℕ) → p a v ≡ false) where
+-- the task of a joint
+law_at : (j : Joint) → Lawful (task_at j)
+law_at j = filed_lawful j.setting.now.task
+
+module _ (j : Joint) {old cur : Table} {p : ℕ → ℕ → Bool} (wrote : Wrote p (through j old) old cur)
+    (off_row : (b : ℕ) → p j.v b ≡ false) (off_column : (a : ℕ) → p a j.v ≡ false) where
   -- the entries to v and from v are as they were
-  to_same : (a : ℕ) → entry t cur a v ≡ entry t old a v
-  to_same a = same_entry t old cur a v (unwritten wrote a v (off_column a))
+  to_same : (a : ℕ) → entry (task_at j) cur a j.v ≡ entry (task_at j) old a j.v
+  to_same a = same_entry (task_at j) old cur a j.v (unwritten wrote a j.v (off_column a))
 
-  from_same : (b : ℕ) → entry t cur v b ≡ entry t old v b
-  from_same b = same_entry t old cur v b (unwritten wrote v b (off_row b))
+  from_same : (b : ℕ) → entry (task_at j) cur j.v b ≡ entry (task_at j) old j.v b
+  from_same b = same_entry (task_at j) old cur j.v b (unwritten wrote j.v b (off_row b))
 
-  still_ready : Ready t old v → Ready t cur v
+  still_ready : Ready (task_at j) old j.v → Ready (task_at j) cur j.v
   still_ready ready a ha = (omega (arith, to_same a, (ready a ha).0), omega (arith, from_same a, (ready a ha).1))
 
   -- so a step at a pair that was not written gives the same
-  still_steps : (u w : ℕ) → p u w ≡ false → stepped t cores (entry t cur) v u w ≡ stepped t cores (entry t old) v u w
+  still_steps : (u w : ℕ) → p u w ≡ false → through j cur u w ≡ through j old u w
   still_steps u w none =
-      stepped_same t cores (entry t cur) (entry t old) v u w (to_same u) (from_same w) (same_entry t old cur u w (unwritten wrote u w none))
+      stepped_same (task_at j) j.setting.now.cores (entry (task_at j) cur) (entry (task_at j) old) j.v u w (to_same u) (from_same w)
+      (same_entry (task_at j) old cur u w (unwritten wrote u w none))
 
 -- row u, of which the cells with the pieces passed are written
-module _ {t : Task} (law : Lawful t) (cores u v : ℕ) (to : t.ancestor u v ≡ true) (behind : ℕ) (is_behind : (x : ℕ) → member behind x ≡ t.ancestor v x) where
+module _ (j : Joint) (u : ℕ) (to : (task_at j).ancestor u j.v ≡ true) where
   -- where no walk leads from u to v, the row stays
-  pub row_stays : (m : Table) → cell m u v ≡ 0 → Wrote (λ a b. eqb u a && t.ancestor v b) (stepped t cores (entry t m) v) m m
+  pub row_stays : (m : Table) → cell m u j.v ≡ 0 → RowThrough j u m m
   row_stays m none =
-      wrote_still (λ a b h. let both = and_parts (eqb u a) (t.ancestor v b) h in
-      subst (λ x. stepped t cores (entry t m) v x b ≡ cell m x b) (eqb-true u a both.0) (cells_stay law cores m u v b to both.1 (inl none)))
+      wrote_still (λ a b h. let both = and_parts (eqb u a) ((task_at j).ancestor j.v b) h in
+      subst (λ x. through j m x b ≡ cell m x b) (eqb-true u a both.0) (cells_stay (law_at j) j.setting.now.cores m u j.v b to both.1 (inl none)))
 
-  module _ {old cur : Table} (rest : ℕ) (wrote : Wrote (λ a b. eqb u a && passed behind rest b) (stepped t cores (entry t old) v) old cur) where
-    off_row : (b : ℕ) → (eqb u v && passed behind rest b) ≡ false
-    off_row b = and_left (eqb u v) (passed behind rest b) (ne_eqb u v (ancestor_apart law u v to))
+  module _ {old cur : Table} (rest : ℕ) (wrote : Wrote (λ a b. eqb u a && passed j.behind rest b) (through j old) old cur) where
+    off_row : (b : ℕ) → (eqb u j.v && passed j.behind rest b) ≡ false
+    off_row b = and_left (eqb u j.v) (passed j.behind rest b) (ne_eqb u j.v (ancestor_apart (law_at j) u j.v to))
 
-    off_column : (a : ℕ) → (eqb u a && passed behind rest v) ≡ false
-    off_column a = and_right (eqb u a) (passed behind rest v) (and_left (member behind v) (not (member rest v)) (is_behind v ∙ law.acyclic v))
+    off_column : (a : ℕ) → (eqb u a && passed j.behind rest j.v) ≡ false
+    off_column a = and_right (eqb u a) (passed j.behind rest j.v) (and_left (member j.behind j.v) (not (member rest j.v)) (j.led j.v ∙ (law_at j).acyclic j.v))
 
-    pub row_to : cell cur u v ≡ cell old u v
-    row_to = unwritten wrote u v (off_column u)
+    pub row_to : cell cur u j.v ≡ cell old u j.v
+    row_to = unwritten wrote u j.v (off_column u)
 
-    pub row_ready : Ready t old v → Ready t cur v
-    row_ready = still_ready t cores v wrote off_row off_column
+    pub row_ready : Ready (task_at j) old j.v → Ready (task_at j) cur j.v
+    row_ready = still_ready j wrote off_row off_column
 
     -- the next cell, written from what stands there now, is the cell written from what stood there at first
-    pub row_turn : {new : Table} (next w value : ℕ) → Within rest behind → member rest w ≡ true → Without rest w next → value ≡ stepped t cores (entry t cur) v u w
-        → Wrote (λ a b. eqb u a && eqb w b) (λ a b. value) cur new → Wrote (λ a b. eqb u a && passed behind next b) (stepped t cores (entry t old) v) old new
+    pub row_turn : {new : Table} (next w value : ℕ) → Within rest j.behind → member rest w ≡ true → Without rest w next → value ≡ through j cur u w
+        → Wrote (λ a b. eqb u a && eqb w b) (λ a b. value) cur new → Wrote (λ a b. eqb u a && passed j.behind next b) (through j old) old new
     row_turn next w value inside here without is =
-        line_turn (λ a b. eqb u a) (λ a b. b) behind rest next w u w value inside here without
-        (is ∙ still_steps t cores v wrote off_row off_column u w (and_right (eqb u u) (passed behind rest w) (not_passed behind rest w here)))
+        line_turn (λ a b. eqb u a) (λ a b. b) j.behind rest next w u w value inside here without
+        (is ∙ still_steps j wrote off_row off_column u w (and_right (eqb u u) (passed j.behind rest w) (not_passed j.behind rest w here)))
         (λ a b. refl) wrote
 
     -- and where no walk leads from v on it stays
-    pub row_skips : (next w : ℕ) → Within rest behind → member rest w ≡ true → Without rest w next → cell cur v w ≡ 0
-        → Wrote (λ a b. eqb u a && passed behind next b) (stepped t cores (entry t old) v) old cur
+    pub row_skips : (next w : ℕ) → Within rest j.behind → member rest w ≡ true → Without rest w next → cell cur j.v w ≡ 0
+        → Wrote (λ a b. eqb u a && passed j.behind next b) (through j old) old cur
     row_skips next w inside here without none =
-        row_turn next w (cell cur u w) inside here without (sym (cells_stay law cores cur u v w to (sym (is_behind w) ∙ inside w here) (inr none)))
+        row_turn next w (cell cur u w) inside here without
+        (sym (cells_stay (law_at j) j.setting.now.cores cur u j.v w to (sym (j.led w) ∙ inside w here) (inr none)))
         (wrote_still (λ a b h. at_pair (λ x y. cell cur u w ≡ cell cur x y) u w a b refl h))
 
 -- all rows of the pieces that lead to v, of which those passed are written
-module _ {t : Task} (law : Lawful t) (cores v before : ℕ) (is_before : (x : ℕ) → member before x ≡ t.ancestor x v)
-    {old cur : Table} (rest : ℕ) (wrote : Wrote (λ a b. passed before rest a && t.ancestor v b) (stepped t cores (entry t old) v) old cur) where
-  rows_off_row : (b : ℕ) → (passed before rest v && t.ancestor v b) ≡ false
-  rows_off_row b = and_left (passed before rest v) (t.ancestor v b) (and_left (member before v) (not (member rest v)) (is_before v ∙ law.acyclic v))
+module _ (j : Joint) {old cur : Table} (rest : ℕ) (wrote : Wrote (λ a b. passed j.before rest a && (task_at j).ancestor j.v b) (through j old) old cur) where
+  rows_off_row : (b : ℕ) → (passed j.before rest j.v && (task_at j).ancestor j.v b) ≡ false
+  rows_off_row b =
+      and_left (passed j.before rest j.v) ((task_at j).ancestor j.v b) (and_left (member j.before j.v) (not (member rest j.v)) (j.leading j.v ∙ (law_at j).acyclic j.v))
 
-  rows_off_column : (a : ℕ) → (passed before rest a && t.ancestor v v) ≡ false
-  rows_off_column a = and_right (passed before rest a) (t.ancestor v v) (law.acyclic v)
+  rows_off_column : (a : ℕ) → (passed j.before rest a && (task_at j).ancestor j.v j.v) ≡ false
+  rows_off_column a = and_right (passed j.before rest a) ((task_at j).ancestor j.v j.v) ((law_at j).acyclic j.v)
 
-  pub rows_ready : Ready t old v → Ready t cur v
-  rows_ready = still_ready t cores v wrote rows_off_row rows_off_column
+  pub rows_ready : Ready (task_at j) old j.v → Ready (task_at j) cur j.v
+  rows_ready = still_ready j wrote rows_off_row rows_off_column
 
   -- the next row, written from what stands there now, is the row written from what stood there at first
-  pub rows_turn : {new : Table} (next u : ℕ) → Within rest before → member rest u ≡ true → Without rest u next
-      → Wrote (λ a b. eqb u a && t.ancestor v b) (stepped t cores (entry t cur) v) cur new
-      → Wrote (λ a b. passed before next a && t.ancestor v b) (stepped t cores (entry t old) v) old new
+  pub rows_turn : {new : Table} (next u : ℕ) → Within rest j.before → member rest u ≡ true → Without rest u next
+      → RowThrough j u cur new → Wrote (λ a b. passed j.before next a && (task_at j).ancestor j.v b) (through j old) old new
   rows_turn next u inside here without row =
       wrote_join wrote row
-      (λ a b h. let is = eqb-true u a (and_parts (eqb u a) (t.ancestor v b) h).0 in
-      subst (λ x. stepped t cores (entry t cur) v x b ≡ stepped t cores (entry t old) v x b) is
-      (still_steps t cores v wrote rows_off_row rows_off_column u b (and_left (passed before rest u) (t.ancestor v b) (not_passed before rest u here))))
-      (λ a b. ap (λ x. x && t.ancestor v b) (passed_more before rest next u inside here without a) ∙ either (passed before rest a) (eqb u a) (t.ancestor v b))
+      (λ a b h. let is = eqb-true u a (and_parts (eqb u a) ((task_at j).ancestor j.v b) h).0 in
+      subst (λ x. through j cur x b ≡ through j old x b) is
+      (still_steps j wrote rows_off_row rows_off_column u b (and_left (passed j.before rest u) ((task_at j).ancestor j.v b) (not_passed j.before rest u here))))
+      (λ a b. ap (λ x. x && (task_at j).ancestor j.v b) (passed_more j.before rest next u inside here without a)
+      ∙ either (passed j.before rest a) (eqb u a) ((task_at j).ancestor j.v b))
     where
       either : (x y z : Bool) → ((x || y) && z) ≡ ((x && z) || (y && z))
       either true y true = refl

@@ -1,7 +1,6 @@
 -- Each turn writes the row of one more piece that leads to v.
 use Rattle.std.proofs.Common.{◌&&◌, sym, ap, ◌∙◌}
 use Rattle.sets.proofs.Iterating.{within_more, passed_all}
-use Rattle.task.proofs.Filed.{filed_lawful}
 use Rattle.numerator.specs.Joints.{task_at}
 use Rattle.numerator.proofs.Placing.{wrote_same}
 use Rattle.numerator.proofs.Rows.{rows_ready, rows_turn}
@@ -13,7 +12,7 @@ row-requires c =
     let u = c.in-Some.u in
     record {
       to = sym (j.leading u) ∙ c.loop-u.invariant.inside u c.in-Some.ensures.steps.1.0;
-      ready = rows_ready (filed_lawful j.setting.now.task) j.setting.now.cores j.v j.before j.leading c.loop-u.u-iterator.rest c.loop-u.invariant.wrote c.requires;
+      ready = rows_ready j c.loop-u.u-iterator.rest c.loop-u.invariant.wrote c.requires;
     }
 
 pub loop-u-preserved : goal.loop-u-preserved
@@ -25,7 +24,7 @@ loop-u-preserved c =
     let u = c.in-Some.u in
     record {
       inside = within_more j.before rest next u c.loop-u.invariant.inside taken.1.0 taken.2;
-      wrote = rows_turn (filed_lawful j.setting.now.task) j.setting.now.cores j.v j.before j.leading rest c.loop-u.invariant.wrote next u
+      wrote = rows_turn j rest c.loop-u.invariant.wrote next u
           c.loop-u.invariant.inside taken.1.0 taken.2 c.row.ensures;
     }
 

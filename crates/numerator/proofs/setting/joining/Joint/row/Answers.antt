@@ -12,19 +12,18 @@ use Rattle.numerator.proofs.setting.joining.Joint.row.Goals as goal
 pub returns-then-to-eq0 : goal.returns-then-to-eq0
 returns-then-to-eq0 c =
     let j = c.args.self.now in
-    row_stays (filed_lawful j.setting.now.task) j.setting.now.cores c.args.u j.v c.requires.to j.behind j.led c.args.table.now (sym c.get-to.ensures ∙ c.if-to-eq0.true)
+    row_stays j c.args.u c.requires.to c.args.table.now (sym c.get-to.ensures ∙ c.if-to-eq0.true)
 
 pub loop-w-preserved-then-on-eq0 : goal.loop-w-preserved-then-on-eq0
 loop-w-preserved-then-on-eq0 c =
     let j = c.args.self.now in
-    let law = filed_lawful j.setting.now.task in
     let rest = c.loop-w.w-iterator.rest in
     let next = c.next.new.self.rest in
     let taken = c.in-Some.ensures.steps in
     let w = c.in-Some.w in
     record {
       inside = within_more j.behind rest next w c.loop-w.invariant.inside taken.1.0 taken.2;
-      wrote = row_skips law j.setting.now.cores c.args.u j.v c.requires.to j.behind j.led rest c.loop-w.invariant.wrote next w c.loop-w.invariant.inside taken.1.0 taken.2
+      wrote = row_skips j c.args.u c.requires.to rest c.loop-w.invariant.wrote next w c.loop-w.invariant.inside taken.1.0 taken.2
           (sym c.get-on.ensures ∙ c.if-on-eq0.true);
     }
 
@@ -43,7 +42,7 @@ overflow_add-to c =
       (c.requires.ready u (ancestor_ends law u j.v c.requires.to).0).0,
       c.get-on.ensures,
       entry_read t c.loop-w.table j.v w on,
-      (row_ready law j.setting.now.cores u j.v c.requires.to j.behind j.led c.loop-w.w-iterator.rest c.loop-w.invariant.wrote c.requires.ready w (ancestor_ends law j.v w on).1).1,
+      (row_ready j u c.requires.to c.loop-w.w-iterator.rest c.loop-w.invariant.wrote c.requires.ready w (ancestor_ends law j.v w on).1).1,
     )
 
 pub loop-w-preserved : goal.loop-w-preserved
@@ -62,9 +61,9 @@ loop-w-preserved c =
     let is = c.max.ensures ∙ ap (λ (x : ℕ). max c.get.result x) (c.saturating_sub-joined.ensures ∙ ap (λ (x : ℕ). (to + on) - x) c.twice.ensures) in
     record {
       inside = within_more j.behind rest next w c.loop-w.invariant.inside taken.1.0 taken.2;
-      wrote = row_turn law cores u j.v c.requires.to j.behind j.led rest wrote next w c.max.result c.loop-w.invariant.inside taken.1.0 taken.2
+      wrote = row_turn j u c.requires.to rest wrote next w c.max.result c.loop-w.invariant.inside taken.1.0 taken.2
           (joined_is law cores c.loop-w.table u j.v w c.requires.to (sym (j.led w) ∙ c.loop-w.invariant.inside w taken.1.0) to on c.get.result c.max.result
-          (c.get-to.ensures ∙ sym (row_to law cores u j.v c.requires.to j.behind j.led rest wrote)) c.get-on.ensures c.get.ensures c.if-to-eq0.false c.if-on-eq0.false is)
+          (c.get-to.ensures ∙ sym (row_to j u c.requires.to rest wrote)) c.get-on.ensures c.get.ensures c.if-to-eq0.false c.if-on-eq0.false is)
           c.set.ensures;
     }
 
