@@ -19,7 +19,8 @@ impl<'s> Table<'s> {
     pub(crate) fn new(scratch: &'s mut [u64], pieces: usize) -> Table<'s>
         requires few { pieces ≤ 64 }
         requires room { room_of pieces ≤ length scratch.old }
-        ensures { result.pieces ≡ pieces }
+        ensures pieces { result.pieces ≡ pieces }
+        ensures cells { result.cells.now ≡ scratch.old }
     {
         Table {
             cells: scratch,

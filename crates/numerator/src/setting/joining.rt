@@ -10,7 +10,7 @@ use crate::totals::work;
 use sets::pieces_of;
 
 // Piece v of a setting with its numerator alone, its ancestors and its descendants.
-#[derive(Clone, Copy)]
+#[derive(Drop)]
 pub(super) struct Joint<'s> {
     setting: &'s Setting,
     v: usize,
