@@ -1,16 +1,16 @@
 -- The table of numerators: a cell for each pair of pieces, of which one is an ancestor of the other. Assumes nothing.
 use Rattle.std.specs.Prelude.{◌≡◌, ℕ, ◌<◌, ◌≤◌, Bool, cond, ◌&&◌, Some, None, Option, nat_lt, slice_index}
 use Rattle.theory.specs.Tasks.{Task}
-use Rattle.numerator.specs.Places.{place_of}
+use Rattle.numerator.specs.Places.{place_of, room_of}
 use Rattle.numerator.specs.declared.table.Table.{Table}
 
 -- both numbers are of pieces of the table
 abbrev pub Inside : Table → ℕ → ℕ → Type 0
 Inside m u w = (u < m.pieces) × (w < m.pieces)
 
--- where the cell of a pair lies, and nowhere past the table
+-- where the cell of a pair lies: within the room for all, which is small, and nowhere past the table
 abbrev pub PlaceSays : Table → ℕ → ℕ → Option ℕ → Type 0
-PlaceSays m u w (Some place) = Inside m u w × (place ≡ place_of m.pieces u w)
+PlaceSays m u w (Some place) = Inside m u w × (place ≡ place_of m.pieces u w) × (place < room_of m.pieces) × (place < 4096)
 PlaceSays m u w None = Inside m u w → ⊥
 
 -- what the cell of a pair holds, and 0 past the table
