@@ -2,6 +2,7 @@
 pub mod Adding
 pub mod Meeting
 pub mod Weighing
+pub mod Relatives
 pub mod Placing
 pub mod Lines
 pub mod Stepping

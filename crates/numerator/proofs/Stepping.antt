@@ -1,10 +1,11 @@
 -- What allowing one more piece makes of the entry of a pair, from the three cells that it goes by. Assumes nothing.
-use Rattle.std.proofs.Common.{◌≡◌, ℕ, ◌+◌, ◌-◌, max, true, false, cond, ◌||◌, eqb, ◌⊎◌, List, get_or, sym, ap, ◌∙◌, inl, inr, ⊎_elim}
+use Rattle.std.proofs.Common.{◌≡◌, ℕ, ◌+◌, ◌-◌, max, true, false, cond, ◌||◌, eqb, ◌⊎◌, sym, ap, ◌∙◌, inl, inr, ⊎_elim}
 use Rattle.std.proofs.lemmas.Bool.{cond-true, cond-false, or_left, or_right, or_from, eq-eqb, ne_eqb}
 use Rattle.theory.specs.Tasks.{Task, Lawful}
 use Rattle.theory.specs.Inner.{twice, stepped}
 use Rattle.theory.proofs.Ancestors.{ancestor_join}
-use Rattle.numerator.specs.Cells.{place_of, entry}
+use Rattle.numerator.specs.Cells.{cell, entry}
+use Rattle.numerator.specs.declared.table.Table.{Table}
 
 module _ (t : Task) (cores : ℕ) where
   -- a step goes by three entries
@@ -26,32 +27,39 @@ module _ (t : Task) (cores : ℕ) where
   stepped_joins M v u w to on = cond-false (eqb (M u v) 0 || eqb (M v w) 0) _ _ (or_from (eqb (M u v) 0) _ (ne_eqb (M u v) 0 to) (ne_eqb (M v w) 0 on))
 
 -- the entry of an ancestor is what its cell holds
-pub entry_read : (t : Task) (scratch : List ℕ) (u w place : ℕ) → t.ancestor u w ≡ true → place ≡ place_of t.pieces u w → entry t scratch u w ≡ get_or scratch place 0
-entry_read t scratch u w place h e = cond-true (t.ancestor u w) _ 0 h ∙ ap (λ i. get_or scratch i 0) (sym e)
+pub entry_read : (t : Task) (m : Table) (u w : ℕ) → t.ancestor u w ≡ true → entry t m u w ≡ cell m u w
+entry_read t m u w h = cond-true (t.ancestor u w) _ 0 h
 
 -- and where there is none it is 0
-pub entry_none : (t : Task) (scratch : List ℕ) (u w : ℕ) → t.ancestor u w ≡ false → entry t scratch u w ≡ 0
-entry_none t scratch u w h = cond-false (t.ancestor u w) _ 0 h
+pub entry_none : (t : Task) (m : Table) (u w : ℕ) → t.ancestor u w ≡ false → entry t m u w ≡ 0
+entry_none t m u w h = cond-false (t.ancestor u w) _ 0 h
 
-module _ {t : Task} (law : Lawful t) (cores : ℕ) (scratch : List ℕ) (u v w : ℕ) (to_v : t.ancestor u v ≡ true) (on_w : t.ancestor v w ≡ true)
-    (a b c : ℕ) (at_a : a ≡ place_of t.pieces u v) (at_b : b ≡ place_of t.pieces v w) (at_c : c ≡ place_of t.pieces u w) where
-  to_is : entry t scratch u v ≡ get_or scratch a 0
-  to_is = entry_read t scratch u v a to_v at_a
+module _ {t : Task} (law : Lawful t) (cores : ℕ) (m : Table) (u v w : ℕ) (to_v : t.ancestor u v ≡ true) (on_w : t.ancestor v w ≡ true) where
+  to_is : entry t m u v ≡ cell m u v
+  to_is = entry_read t m u v to_v
 
-  on_is : entry t scratch v w ≡ get_or scratch b 0
-  on_is = entry_read t scratch v w b on_w at_b
+  on_is : entry t m v w ≡ cell m v w
+  on_is = entry_read t m v w on_w
 
-  old_is : entry t scratch u w ≡ get_or scratch c 0
-  old_is = entry_read t scratch u w c (ancestor_join law u v w to_v on_w) at_c
+  old_is : entry t m u w ≡ cell m u w
+  old_is = entry_read t m u w (ancestor_join law u v w to_v on_w)
 
   -- the two ways of the step, on what the cells hold
-  pub cells_stay : (get_or scratch a 0 ≡ 0) ⊎ (get_or scratch b 0 ≡ 0) → get_or scratch c 0 ≡ stepped t cores (entry t scratch) v u w
-  cells_stay none = sym (stepped_stays t cores (entry t scratch) v u w (⊎_elim (λ e. inl (to_is ∙ e)) (λ e. inr (on_is ∙ e)) none) ∙ old_is)
+  pub cells_stay : (cell m u v ≡ 0) ⊎ (cell m v w ≡ 0) → stepped t cores (entry t m) v u w ≡ cell m u w
+  cells_stay none = stepped_stays t cores (entry t m) v u w (⊎_elim (λ e. inl (to_is ∙ e)) (λ e. inr (on_is ∙ e)) none) ∙ old_is
 
-  pub cells_join : (get_or scratch a 0 ≡ 0 → ⊥) → (get_or scratch b 0 ≡ 0 → ⊥)
-      → max (get_or scratch c 0) ((get_or scratch a 0 + get_or scratch b 0) - twice t cores u v w) ≡ stepped t cores (entry t scratch) v u w
+  cells_join : (cell m u v ≡ 0 → ⊥) → (cell m v w ≡ 0 → ⊥)
+      → max (cell m u w) ((cell m u v + cell m v w) - twice t cores u v w) ≡ stepped t cores (entry t m) v u w
   cells_join to on =
-      sym (stepped_joins t cores (entry t scratch) v u w (λ e. to (sym to_is ∙ e)) (λ e. on (sym on_is ∙ e))
-      ∙ ap (λ x. max x ((entry t scratch u v + entry t scratch v w) - twice t cores u v w)) old_is
-      ∙ ap (λ x. max (get_or scratch c 0) ((x + entry t scratch v w) - twice t cores u v w)) to_is
-      ∙ ap (λ x. max (get_or scratch c 0) ((get_or scratch a 0 + x) - twice t cores u v w)) on_is)
+      sym (stepped_joins t cores (entry t m) v u w (λ e. to (sym to_is ∙ e)) (λ e. on (sym on_is ∙ e))
+      ∙ ap (λ x. max x ((entry t m u v + entry t m v w) - twice t cores u v w)) old_is
+      ∙ ap (λ x. max (cell m u w) ((x + entry t m v w) - twice t cores u v w)) to_is
+      ∙ ap (λ x. max (cell m u w) ((cell m u v + x) - twice t cores u v w)) on_is)
+
+  pub joined_is : (to on old value : ℕ) → to ≡ cell m u v → on ≡ cell m v w → old ≡ cell m u w → (to ≡ 0 → ⊥) → (on ≡ 0 → ⊥)
+      → value ≡ max old ((to + on) - twice t cores u v w) → value ≡ stepped t cores (entry t m) v u w
+  joined_is to on old value to_at on_at old_at some_to some_on is =
+      is ∙ ap (λ x. max x ((to + on) - twice t cores u v w)) old_at
+      ∙ ap (λ x. max (cell m u w) ((x + on) - twice t cores u v w)) to_at
+      ∙ ap (λ x. max (cell m u w) ((cell m u v + x) - twice t cores u v w)) on_at
+      ∙ cells_join (λ e. some_to (to_at ∙ e)) (λ e. some_on (on_at ∙ e))

@@ -1,19 +1,17 @@
 -- The pieces of a level taken one after the other: which walks may go through, and when all may. Assumes nothing.
-use Rattle.std.proofs.Common.{◌≡◌, ℕ, ◌+◌, ◌<◌, ◌≤◌, true, false, not, ◌&&◌, eqb, ◌⊎◌, List, sym, refl, ap, ◌∙◌, inl, inr, ⊎_elim, arith}
+use Rattle.std.proofs.Common.{◌≡◌, ℕ, ◌+◌, ◌<◌, ◌≤◌, true, false, not, ◌&&◌, eqb, ◌⊎◌, sym, refl, ap, ◌∙◌, inl, inr, ⊎_elim, arith}
 use mathlib.Core.Bool.{and-true}
 use Rattle.std.proofs.lemmas.Bool.{both_ways, cases_lt, and_left, and_right, eqb-true, eq-eqb, ne_eqb}
 use Rattle.sets.specs.Sets.{member, SetOf, Without}
-use Rattle.sets.specs.Levels.{level_of, ByKey}
-use Rattle.sets.specs.declared.levels.Levelled.{Levelled}
 use Rattle.sets.proofs.Members.{member-zero, set_true, true_set}
 use Rattle.sets.proofs.Iterating.{Within}
-use Rattle.sets.proofs.Levelling.{by_key_at}
 use Rattle.theory.specs.Tasks.{Task, Lawful}
 use Rattle.theory.specs.Inner.{Best, stepped}
 use Rattle.theory.proofs.Eliminating.{eliminated, best_same}
 use Rattle.theory.proofs.Sizes.{entry_small}
 use Rattle.numerator.specs.Cells.{entry, Ready, Wrote}
 use Rattle.numerator.specs.Settings.{rank, Ahead}
+use Rattle.numerator.specs.declared.table.Table.{Table}
 use Rattle.numerator.proofs.Ranks.{rank_few, rank_orders}
 use Rattle.numerator.proofs.Rows.{all_stepped}
 
@@ -21,10 +19,8 @@ use Rattle.numerator.proofs.Rows.{all_stepped}
 abbrev pub Taken : Task → ℕ → ℕ → ℕ → Type 0
 Taken t level rest x = (x < t.pieces) × ((rank t x < level) ⊎ ((rank t x ≡ level) × (member rest x ≡ false)))
 
-module _ {t : Task} (law : Lawful t) (cores : ℕ) (levels : Levelled) (sorted : ByKey (rank t) t.pieces levels) (level set : ℕ) (same : set ≡ level_of levels level) where
-  at : SetOf t.pieces (λ j. eqb (rank t j) level) set
-  at = by_key_at (rank t) t.pieces level set levels sorted same
-
+-- the set of the pieces of a level
+module _ {t : Task} (law : Lawful t) (cores level set : ℕ) (at : SetOf t.pieces (λ j. eqb (rank t j) level) set) where
   -- before the first only those ahead are taken
   pub taking_start : (M : ℕ → ℕ → ℕ) (rest : ℕ) → rest ≡ set → Best t cores (Ahead t level) M → Best t cores (Taken t level rest) M
   taking_start M rest e =
@@ -58,17 +54,17 @@ module _ {t : Task} (law : Lawful t) (cores : ℕ) (levels : Levelled) (sorted :
     ahead a k = rank_orders law a v k.0 taking_piece.0 (⊎_elim (λ l. omega (arith, its_rank)) (λ h. omega (arith, its_rank, h.0)) k.1)
 
     -- what is taken so far leaves the entries small enough to be added
-    pub taking_ready : cores ≤ 16 → (m : List ℕ) → Best t cores (Taken t level rest) (entry t m) → Ready t m v
+    pub taking_ready : cores ≤ 16 → (m : Table) → Best t cores (Taken t level rest) (entry t m) → Ready t m v
     taking_ready most m best a ha =
         let small = entry_small law cores most (Taken t level rest) (entry t m) best in
         (small a v ha taking_piece.0, small v a taking_piece.0 ha)
 
     -- and taking v makes walks through it count
-    pub taking_turn : 1 ≤ cores → (m new : List ℕ) → Best t cores (Taken t level rest) (entry t m)
-        → Wrote t.pieces (λ a b. t.ancestor a v && t.ancestor v b) (stepped t cores (entry t m) v) m new → Best t cores (Taken t level next) (entry t new)
+    pub taking_turn : 1 ≤ cores → (m new : Table) → Best t cores (Taken t level rest) (entry t m)
+        → Wrote (λ a b. t.ancestor a v && t.ancestor v b) (stepped t cores (entry t m) v) m new → Best t cores (Taken t level next) (entry t new)
     taking_turn some m new best wrote =
         eliminated law cores some (Taken t level rest) (Taken t level next) v taking_piece.0 wider it narrow ahead (entry t m) (entry t new) best
-        (all_stepped law cores v m new wrote)
+        (λ u w _ _. all_stepped law cores v m new wrote u w)
 
 -- in the end all pieces are taken
 pub taken_all : {t : Task} → Lawful t → (cores level : ℕ) (M : ℕ → ℕ → ℕ) → 64 < level → Best t cores (Ahead t level) M → Best t cores (λ x. x < t.pieces) M

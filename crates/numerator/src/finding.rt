@@ -4,6 +4,7 @@ ghost use Rattle.numerator.specs.Finding.{NumeratorSays};
 
 use crate::refusals::BoundRefusal;
 use crate::setting::Setting;
+use crate::table::Table;
 use task::stages::Filed;
 
 // The largest numerator of a complete path on 1 to 16 cores, and 0 without pieces. It works in the scratch, which takes at least
@@ -19,7 +20,8 @@ pub fn numerator(task: &Filed, cores: u32, scratch: &mut [u64]) -> Result<u32, B
         return Err(BoundRefusal::Scratch);
     }
     let setting = Setting::new(task, cores as u64);
-    setting.fill(scratch);
-    setting.eliminate_all(scratch);
-    Ok(setting.greatest(scratch) as u32)
+    let mut table = Table::new(scratch, n);
+    setting.fill(&mut table);
+    setting.eliminate_all(&mut table);
+    Ok(setting.greatest(&table) as u32)
 }

@@ -5,6 +5,7 @@ mod finding;
 mod interfering;
 mod refusals;
 mod setting;
+mod table;
 mod totals;
 
 pub use finding::numerator;

@@ -8,6 +8,7 @@ use task::stages::Filed;
 mod eliminating;
 mod filling;
 mod greatest;
+mod joining;
 mod weights;
 
 // A task on a number of cores, with the interference set of each piece.

@@ -36,8 +36,6 @@ impl Setting {
 
     // The numerator of the edge from u to w, and 0 where there is none.
     pub(crate) fn straight(&self, u: usize, w: usize) -> u64
-        requires u { Piece self.now u }
-        requires w { Piece self.now w }
         ensures { result ≡ straight_at (task_in self.now) self.now.cores u w }
     {
         if !has(self.task.predecessors(w), u) {

@@ -7,4 +7,4 @@ use Rattle.numerator.proofs.setting.Setting.arriving.Given as goal
 
 abbrev pub invariant-loop-u : goal.invariant-loop-u
 invariant-loop-u l =
-    Within l.u-iterator.rest l.before × LargestWhere (passed l.before l.u-iterator.rest) (λ u. entry (task_in l.self) l.scratch u l.w) l.largest
+    Within l.u-iterator.rest l.before × LargestWhere (passed l.before l.u-iterator.rest) (λ u. entry (task_in l.self) l.table u l.w) l.largest

@@ -6,13 +6,7 @@ use Rattle.numerator.specs.Settings.{task_in}
 use Rattle.numerator.proofs.Taking.{taken_all}
 use Rattle.numerator.proofs.setting.Setting.eliminate_all.Goals as goal
 
-pub eliminate_level-requires : goal.eliminate_level-requires
-eliminate_level-requires c = record { room = omega arith; sorted = c.by_rank-levels.ensures; ahead = c.loop-level.invariant }
-
-pub loop-level-preserved : goal.loop-level-preserved
-loop-level-preserved c = c.eliminate_level.ensures
-
 pub returns : goal.returns
 returns c =
     let s = c.args.self.now in
-    taken_all (filed_lawful s.task) s.cores c.loop-level.level (entry (task_in s) c.loop-level.scratch) (omega arith) c.loop-level.invariant
+    taken_all (filed_lawful s.task) s.cores c.loop-level.level (entry (task_in s) c.loop-level.table) (omega arith) c.loop-level.invariant

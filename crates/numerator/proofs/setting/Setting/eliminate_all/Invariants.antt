@@ -5,4 +5,4 @@ use Rattle.numerator.specs.Settings.{task_in, Ahead}
 use Rattle.numerator.proofs.setting.Setting.eliminate_all.Given as goal
 
 abbrev pub invariant-loop-level : goal.invariant-loop-level
-invariant-loop-level l = Best (task_in l.self) l.self.cores (Ahead (task_in l.self) l.level) (entry (task_in l.self) l.scratch)
+invariant-loop-level l = Best (task_in l.self) l.self.cores (Ahead (task_in l.self) l.level) (entry (task_in l.self) l.table)

@@ -7,6 +7,7 @@ use Rattle.numerator.proofs.Taking.{Taken}
 use Rattle.numerator.proofs.setting.Setting.eliminate_level.Given as goal
 
 abbrev pub invariant-loop-v : goal.invariant-loop-v
-invariant-loop-v l =
-    Within l.v-iterator.rest l.set
-    × Best (task_in l.self) l.self.cores (Taken (task_in l.self) l.level l.v-iterator.rest) (entry (task_in l.self) l.scratch)
+invariant-loop-v l = record {
+  inside : Within l.v-iterator.rest l.set;
+  best : Best (task_in l.self) l.self.cores (Taken (task_in l.self) l.level l.v-iterator.rest) (entry (task_in l.self) l.table);
+}

@@ -6,5 +6,4 @@ use Rattle.numerator.specs.Settings.{task_in}
 use Rattle.numerator.proofs.setting.Setting.fill.Given as goal
 
 abbrev pub invariant-loop-w : goal.invariant-loop-w
-invariant-loop-w l =
-    Wrote (task_in l.self).pieces (λ a b. ltb b l.w && (task_in l.self).ancestor a b) (straight (task_in l.self) l.self.cores) l.initial.scratch l.scratch
+invariant-loop-w l = Wrote (λ a b. ltb b l.w && (task_in l.self).ancestor a b) (straight (task_in l.self) l.self.cores) l.initial.table l.table

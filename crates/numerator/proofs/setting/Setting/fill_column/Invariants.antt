@@ -7,6 +7,7 @@ use Rattle.numerator.specs.Settings.{task_in}
 use Rattle.numerator.proofs.setting.Setting.fill_column.Given as goal
 
 abbrev pub invariant-loop-u : goal.invariant-loop-u
-invariant-loop-u l =
-    Within l.u-iterator.rest l.before
-    × Wrote (task_in l.self).pieces (λ a b. eqb l.w b && passed l.before l.u-iterator.rest a) (straight (task_in l.self) l.self.cores) l.initial.scratch l.scratch
+invariant-loop-u l = record {
+  inside : Within l.u-iterator.rest l.before;
+  wrote : Wrote (λ a b. eqb l.w b && passed l.before l.u-iterator.rest a) (straight (task_in l.self) l.self.cores) l.initial.table l.table;
+}

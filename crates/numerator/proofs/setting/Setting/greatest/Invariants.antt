@@ -8,4 +8,4 @@ use Rattle.numerator.proofs.setting.Setting.greatest.Given as goal
 
 abbrev pub invariant-loop-w : goal.invariant-loop-w
 invariant-loop-w l =
-    Peak (filed_lawful l.self.task) l.self.cores (entry (task_in l.self) l.scratch) (entry_none (task_in l.self) l.scratch) l.w l.top
+    Peak (filed_lawful l.self.task) l.self.cores (entry (task_in l.self) l.table) (entry_none (task_in l.self) l.table) l.w l.top
