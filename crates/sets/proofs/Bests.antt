@@ -1,11 +1,8 @@
--- The largest value over the pieces that pass a test, turn by turn. Assumes nothing.
+-- The largest value over the pieces that pass a test, and the largest that is answered of them, turn by turn. Assumes nothing.
 use Rattle.std.proofs.Common.{◌≡◌, ℕ, ◌<◌, ◌≤◌, max, Bool, true, false, ◌||◌, eqb, ◌⊎◌, sym, refl, ◌∙◌, subst, inl, inr, ⊎_elim, arith}
 use Rattle.std.proofs.lemmas.Bool.{both_ways, cases_lt, or_cases, or_left, or_right, eqb-true, eq-eqb}
 use Rattle.sets.specs.Sets.{LargestWhere}
-
--- none passes
-pub largest_none : (p : ℕ → Bool) (f : ℕ → ℕ) → ((k : ℕ) → p k ≡ false) → LargestWhere p f 0
-largest_none p f none = record { bounds = λ k h. absurd (both_ways (p k) (none k) h); reached = inl refl }
+use Rattle.sets.specs.Over.{LargestAnswer}
 
 -- tests that agree have the same largest
 pub largest_same : (p q : ℕ → Bool) (f : ℕ → ℕ) (n : ℕ) → ((k : ℕ) → q k ≡ p k) → LargestWhere p f n → LargestWhere q f n
@@ -14,19 +11,39 @@ largest_same p q f n same l = record {
   reached = ⊎_elim (λ z. inl z) (λ w. inr (w.0, same w.0 ∙ w.1, w.2)) l.reached;
 }
 
--- one more piece passes
-pub largest_more : (p q : ℕ → Bool) (f : ℕ → ℕ) (n j m : ℕ) → LargestWhere p f n → ((k : ℕ) → q k ≡ (p k || eqb j k)) → m ≡ max n (f j) → LargestWhere q f m
-largest_more p q f n j m l one e = record { bounds = bounds; reached = ⊎_elim new old (cases_lt n (f j)) }
-  where
-    bounds : (k : ℕ) → q k ≡ true → f k ≤ m
-    bounds k h =
-        ⊎_elim (λ was. omega (arith, e, l.bounds k was)) (λ is. subst (λ x. f x ≤ m) (eqb-true j k is) (omega (arith, e)))
-        (or_cases (p k) (eqb j k) (sym (one k) ∙ h))
+-- the largest of what is answered, where only one number can be answered of a piece
+pub largest_answered : (p : ℕ → Bool) (answer : ℕ → ℕ → Type 0) (f : ℕ → ℕ) (n : ℕ) → ((k r : ℕ) → p k ≡ true → answer k r → r ≡ f k)
+    → LargestAnswer p answer n → LargestWhere p f n
+largest_answered p answer f n only l = record {
+  bounds = λ k h. let a = l.bounds k h in omega (arith, only k a.0 h a.1, a.2);
+  reached = ⊎_elim (λ z. inl z) (λ w. inr (w.0, w.1, sym (only w.0 n w.1 w.2))) l.reached;
+}
 
-    new : n < f j → (m ≡ 0) ⊎ ((k : ℕ) × (q k ≡ true) × (f k ≡ m))
-    new less = inr (j, one j ∙ or_right (p j) (eqb j j) (eq-eqb j j refl), omega (arith, e, less))
+module _ (p q : ℕ → Bool) (answer : ℕ → ℕ → Type 0) where
+  -- none passes
+  pub answered_none : ((k : ℕ) → p k ≡ false) → LargestAnswer p answer 0
+  answered_none none = record { bounds = λ k h. absurd (both_ways (p k) (none k) h); reached = inl refl }
 
-    old : f j ≤ n → (m ≡ 0) ⊎ ((k : ℕ) × (q k ≡ true) × (f k ≡ m))
-    old more =
-        ⊎_elim (λ z. inl (omega (arith, e, more, z))) (λ w. inr (w.0, one w.0 ∙ or_left (p w.0) (eqb j w.0) w.1, omega (arith, e, more, w.2)))
-        l.reached
+  pub answered_same : (n : ℕ) → ((k : ℕ) → q k ≡ p k) → LargestAnswer p answer n → LargestAnswer q answer n
+  answered_same n same l = record {
+    bounds = λ k h. l.bounds k (sym (same k) ∙ h);
+    reached = ⊎_elim (λ z. inl z) (λ w. inr (w.0, same w.0 ∙ w.1, w.2)) l.reached;
+  }
+
+  -- one more piece passes, of which r is answered
+  pub answered_more : (n j r m : ℕ) → LargestAnswer p answer n → ((k : ℕ) → q k ≡ (p k || eqb j k)) → answer j r → m ≡ max r n → LargestAnswer q answer m
+  answered_more n j r m l one said e = record { bounds = bounds; reached = ⊎_elim new old (cases_lt n r) }
+    where
+      bounds : (k : ℕ) → q k ≡ true → (x : ℕ) × answer k x × (x ≤ m)
+      bounds k h =
+          ⊎_elim (λ was. let a = l.bounds k was in (a.0, a.1, omega (arith, e, a.2)))
+          (λ is. subst (λ x. (y : ℕ) × answer x y × (y ≤ m)) (eqb-true j k is) (r, said, omega (arith, e)))
+          (or_cases (p k) (eqb j k) (sym (one k) ∙ h))
+
+      new : n < r → (m ≡ 0) ⊎ ((k : ℕ) × (q k ≡ true) × answer k m)
+      new less = inr (j, one j ∙ or_right (p j) (eqb j j) (eq-eqb j j refl), let is : r ≡ m = omega (arith, e, less) in subst (answer j) is said)
+
+      old : r ≤ n → (m ≡ 0) ⊎ ((k : ℕ) × (q k ≡ true) × answer k m)
+      old more =
+          let is : n ≡ m = omega (arith, e, more) in
+          ⊎_elim (λ z. inl (omega (arith, is, z))) (λ w. inr (w.0, one w.0 ∙ or_left (p w.0) (eqb j w.0) w.1, subst (answer w.0) is w.2)) l.reached

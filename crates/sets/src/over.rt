@@ -1,7 +1,7 @@
 // Going over the pieces of a set with a closure: those that pass a test, the largest of their values, and the sum.
 ghost use Rattle.std.specs.Prelude.{◌≡◌, ℕ, ◌<◌, Bool, true};
-ghost use Rattle.sets.specs.Sets.{member, sum_over as sum_of, LargestWhere};
-ghost use Rattle.sets.specs.Over.{Answers, Filtered};
+ghost use Rattle.sets.specs.Sets.{member, sum_over as sum_of};
+ghost use Rattle.sets.specs.Over.{Answers, Filtered, LargestAnswer};
 
 use crate::{pieces_of, with};
 
@@ -20,7 +20,7 @@ pub fn filtered<F: Fn(usize) -> bool>(set: u64, test: F) -> u64
 // The largest value of a piece of the set, and 0 where it has none.
 pub fn largest_over<F: Fn(usize) -> u64>(set: u64, value: F) -> u64
     requires { (k : ℕ) → k < 64 → member set k ≡ true → F.pre value k }
-    ensures { (f : ℕ → ℕ) → Answers set (F.post value) f → LargestWhere (member set) f result }
+    ensures { LargestAnswer (member set) (F.post value) result }
 {
     let mut largest = 0;
     for k in pieces_of(set) {

@@ -6,30 +6,22 @@ ghost use Rattle.numerator.specs.Settings.{task_in};
 
 use crate::setting::Setting;
 use crate::table::Table;
-use sets::pieces_of;
+use sets::{first, largest_over};
 
 impl Setting {
     // The largest numerator of a walk that ends at w, and 0 where there is none.
     fn arriving(&self, table: &Table, w: usize) -> u64
         ensures { LargestWhere (λ u. (task_in self.now).ancestor u w) (λ u. entry (task_in self.now) table.now u w) result }
     {
-        let before = self.task.ancestors(w);
-        let mut largest = 0;
-        for u in pieces_of(before) {
-            largest = table.get(u, w).max(largest);
-        }
-        largest
+        largest_over(self.task.ancestors(w), |u| table.get(u, w))
     }
 
     // The largest numerator of a walk and of a piece alone.
     pub(crate) fn greatest(&self, table: &Table) -> u64
         ensures { Greatest (task_in self.now) self.now.cores (entry (task_in self.now) table.now) result }
     {
-        let mut top = 0;
-        for w in 0..self.task.pieces() {
-            let walk = self.arriving(table, w);
-            top = self.alone(w).max(walk).max(top);
-        }
-        top
+        largest_over(first(self.task.pieces()), |w| {
+            self.alone(w).max(self.arriving(table, w))
+        })
     }
 }
