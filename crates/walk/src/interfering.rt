@@ -1,5 +1,6 @@
-// Who interferes with a piece, straight from what the task says of two pieces.
-ghost use Rattle.std.specs.Prelude.{◌≡◌, ◌<◌, ◌≤◌, if◌then◌else◌};
+// Who interferes with a piece, straight from what the task says of two pieces. `numerator` has the same two functions from sets; they
+// are written again here so that the walk shares nothing with what it is held against.
+ghost use Rattle.std.specs.Prelude.{◌≡◌, ◌≤◌, ◌&&◌, if◌then◌else◌, nat_lt};
 ghost use Rattle.sets.specs.Sets.{member, SetOf};
 ghost use Rattle.theory.specs.Paths.{interferes as interferes_at, volume_of};
 ghost use Rattle.task.specs.Filing.{filed_task};
@@ -9,18 +10,15 @@ use task::stages::Filed;
 
 // Whether piece x interferes with piece v: another piece, neither an ancestor of the other, and its priority is not after v's.
 fn interferes(task: &Filed, v: usize, x: usize) -> bool
-    requires v { v < (filed_task task.now).pieces }
-    requires x { x < (filed_task task.now).pieces }
-    ensures { result ≡ interferes_at (filed_task task.now) v x }
+    ensures { result ≡ (nat_lt v (filed_task task.now).pieces && interferes_at (filed_task task.now) v x) }
 {
     let related = (x == v) | has(task.ancestors(v), x) | has(task.ancestors(x), v);
     !related & has(task.not_after(v), x)
 }
 
-// The pieces that interfere with piece v.
+// The pieces that interfere with piece v, and none where v is no piece of the task.
 pub(crate) fn interfering(task: &Filed, v: usize) -> u64
-    requires { v < (filed_task task.now).pieces }
-    ensures { SetOf (filed_task task.now).pieces (interferes_at (filed_task task.now) v) result }
+    ensures { SetOf (filed_task task.now).pieces (λ x. nat_lt v (filed_task task.now).pieces && interferes_at (filed_task task.now) v x) result }
 {
     let mut set = 0;
     for x in 0..task.pieces() {
@@ -31,8 +29,7 @@ pub(crate) fn interfering(task: &Filed, v: usize) -> u64
 
 // The worst time of piece k where it is in the set, and 0 where it is not.
 fn counted(task: &Filed, set: u64, k: usize) -> u64
-    requires { k < (filed_task task.now).pieces }
-    ensures value { result ≡ (if member set k then (filed_task task.now).worst k else 0) }
+    ensures value { result ≡ (if member set k && nat_lt k (filed_task task.now).pieces then (filed_task task.now).worst k else 0) }
     ensures small { result ≤ 65535 }
 {
     if has(set, k) { task.worst(k) as u64 } else { 0 }
