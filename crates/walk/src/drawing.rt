@@ -36,7 +36,7 @@ fn drawn_worst(draws: &mut Draws) -> u32
     if draws.chance(4) {
         return 65535;
     }
-    1 + draws.below(9)
+    1 + draws.below(9) as u32
 }
 
 // So many pieces.
@@ -57,7 +57,7 @@ fn drawn_plain(draws: &mut Draws) -> Plain {
 
 // A banded priority by lot.
 fn drawn_banded(draws: &mut Draws) -> Banded {
-    let band = BANDS[draws.below(4) as usize];
+    let band = BANDS[draws.below(4)];
     Banded {
         band,
         number: draws.below(3) as u8,
@@ -66,12 +66,10 @@ fn drawn_banded(draws: &mut Draws) -> Banded {
 
 // Puts the numbers into an order by lot: each trades places with one that is not behind it.
 fn shuffle(draws: &mut Draws, order: &mut [usize])
-    requires { length order.old ≤ 9 }
     ensures { IsPermutation order.old order.new }
 {
     for k in 0..order.len() {
-        let j = draws.below(k as u32 + 1) as usize;
-        order.swap(k, j);
+        order.swap(k, draws.below(k + 1));
     }
 }
 
@@ -87,7 +85,7 @@ struct Drawing<'d> {
 
 impl Drawing<'_> {
     // An edge, or none: by lot.
-    fn edge(&mut self, percent: u32, before: usize, after: usize) -> Result<(), EdgeRefusal> {
+    fn edge(&mut self, percent: usize, before: usize, after: usize) -> Result<(), EdgeRefusal> {
         if !self.draws.chance(percent) {
             return Ok(());
         }
@@ -109,13 +107,13 @@ impl Drawing<'_> {
         Ok(())
     }
 
-    // Ranks the pieces by priorities that are drawn one after the other, into the room for nine.
+    // Ranks the pieces by priorities that are drawn one after the other, into as much of the room as it takes.
     fn rank<P: Priority + Drop, F: FnMut(&mut Draws) -> P>(
         &mut self,
         room: &mut [P],
         mut drawn: F,
     ) -> Result<(), RankingRefusal>
-        requires room { length room.old ≡ 9 }
+        requires room { self.old.pieces ≤ length room.old }
         requires drawn { F.IsAlwaysCallable drawn }
     {
         let priorities = &mut room[..self.pieces];
@@ -127,7 +125,7 @@ impl Drawing<'_> {
 
     // No priorities, plain ones or banded ones.
     fn ranking(&mut self) -> Result<(), RankingRefusal> {
-        match RANKINGS[self.draws.below(5) as usize] {
+        match RANKINGS[self.draws.below(5)] {
             Ranking::None => Ok(()),
             Ranking::Plain => self.rank(&mut [Plain(0); 9], drawn_plain),
             Ranking::Banded => {
@@ -157,7 +155,7 @@ impl Drawing<'_> {
 pub(crate) fn drawn_task(draws: &mut Draws) -> Result<Filed, Refusal>
     ensures { IfOk result (λ f. (filed_task f).pieces ≤ 9) }
 {
-    let pieces = draws.below(10) as usize;
+    let pieces = draws.below(10);
     let linking = drawn_pieces(draws, pieces)?.close();
     let mut drawing = Drawing {
         draws,

@@ -12,8 +12,10 @@ use task::stages::Filed;
 fn interferes(task: &Filed, v: usize, x: usize) -> bool
     ensures { result ≡ (nat_lt v (filed_task task.now).pieces && interferes_at (filed_task task.now) v x) }
 {
-    let related = (x == v) | has(task.ancestors(v), x) | has(task.ancestors(x), v);
-    !related & has(task.not_after(v), x)
+    if x == v || has(task.ancestors(v), x) || has(task.ancestors(x), v) {
+        return false;
+    }
+    has(task.not_after(v), x)
 }
 
 // The pieces that interfere with piece v, and none where v is no piece of the task.
@@ -32,7 +34,11 @@ fn counted(task: &Filed, set: u64, k: usize) -> u64
     ensures value { result ≡ (if member set k && nat_lt k (filed_task task.now).pieces then (filed_task task.now).worst k else 0) }
     ensures small { result ≤ 65535 }
 {
-    if has(set, k) { task.worst(k) as u64 } else { 0 }
+    if has(set, k) {
+        u64::from(task.worst(k))
+    } else {
+        0
+    }
 }
 
 // The worst times of the pieces in the set, added up.

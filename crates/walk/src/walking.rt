@@ -1,5 +1,5 @@
 // A walk over every complete path, one after the other.
-ghost use Rattle.std.specs.Prelude.{◌≡◌, ◌+◌, ◌-◌, ◌*◌, ◌<◌, ◌≤◌, ◌⊎◌, true, replicate, slice_index};
+ghost use Rattle.std.specs.Prelude.{◌≡◌, ◌+◌, ◌-◌, ◌*◌, ◌<◌, ◌≤◌, ◌⊎◌, true, max, replicate, slice_index};
 ghost use Rattle.theory.specs.Tasks.{below};
 ghost use Rattle.task.specs.Filing.{filed_task};
 
@@ -29,7 +29,7 @@ impl<'t> Path<'t> {
         Path {
             task,
             last: v,
-            length: task.worst(v) as u64,
+            length: u64::from(task.worst(v)),
             interfering: interfering(task, v),
         }
     }
@@ -45,7 +45,7 @@ impl<'t> Path<'t> {
         Path {
             task: self.task,
             last: v,
-            length: self.length + self.task.worst(v) as u64,
+            length: self.length + u64::from(self.task.worst(v)),
             interfering: self.interfering | interfering(self.task, v),
         }
     }
@@ -86,7 +86,9 @@ impl Walked {
     }
 
     // Counts a complete path, and keeps its length and its numerators where they are larger.
-    fn take_in(&mut self, path: Path) {
+    fn take_in(&mut self, path: Path)
+        ensures { self.new.chain ≡ max self.old.chain path.entry.length }
+    {
         let parallel = work(path.task, path.interfering);
         self.paths = self.paths.saturating_add(1);
         self.chain = self.chain.max(path.length);
