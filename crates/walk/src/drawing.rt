@@ -51,12 +51,16 @@ fn drawn_pieces(draws: &mut Draws, n: usize) -> Result<Entering, PieceRefusal>
 }
 
 // A plain priority by lot, of which several are equal.
-fn drawn_plain(draws: &mut Draws) -> Plain {
+fn drawn_plain(draws: &mut Draws) -> Plain
+    ensures { result.0 < 5 }
+{
     Plain(draws.below(5) as u8)
 }
 
 // A banded priority by lot.
-fn drawn_banded(draws: &mut Draws) -> Banded {
+fn drawn_banded(draws: &mut Draws) -> Banded
+    ensures { result.number < 3 }
+{
     let band = BANDS[draws.below(4)];
     Banded {
         band,
