@@ -1,5 +1,6 @@
 // Comparing what the walk says of a task with what the call says, on every number of cores.
-ghost use Rattle.std.specs.Prelude.{◌≡◌, ◌↔◌, IsOk, IfErr};
+ghost use Rattle.std.specs.Prelude.{◌≡◌, ◌+◌, ◌↔◌, min, replicate, IsOk, IfErr};
+ghost use Rattle.walk.specs.declared.comparing.Stop.TheVariants.{Differed, Unfiled, Unbounded};
 
 use crate::drawing::drawn_task;
 use crate::draws::Draws;
@@ -74,6 +75,7 @@ impl Tally {
         walked: u64,
         called: u32,
     ) -> Result<(), Difference>
+        ensures counted { self.new ≡ record self.old { comparisons = min (self.old.comparisons + 1) u64.MAX } }
         ensures agreed { IsOk result ↔ (walked ≡ called) }
         ensures differing { IfErr result (λ d. d ≡ record { cores = cores; number = number; walked = walked; called = called }) }
     {
@@ -109,18 +111,24 @@ impl fmt::Display for Stop {
 }
 
 impl From<Difference> for Stop {
+    ghost from_gives = { λ e r. r ≡ Differed e };
+
     fn from(difference: Difference) -> Stop {
         Stop::Differed(difference)
     }
 }
 
 impl From<Refusal> for Stop {
+    ghost from_gives = { λ e r. r ≡ Unfiled e };
+
     fn from(e: Refusal) -> Stop {
         Stop::Unfiled(e)
     }
 }
 
 impl From<BoundRefusal> for Stop {
+    ghost from_gives = { λ e r. r ≡ Unbounded e };
+
     fn from(e: BoundRefusal) -> Stop {
         Stop::Unbounded(e)
     }
@@ -138,7 +146,9 @@ pub(crate) struct Comparison {
 impl Comparison {
     // Nothing compared yet, and the tasks of this seed to come.
     pub(crate) fn new(seed: u64) -> Comparison
-        ensures { result.tally ≡ record { tasks = 0; paths = 0; comparisons = 0 } }
+        ensures draws { result.draws.state ≡ seed }
+        ensures scratch { result.scratch ≡ replicate SCRATCH u64.MAX }
+        ensures tally { result.tally ≡ record { tasks = 0; paths = 0; comparisons = 0 } }
     {
         Comparison {
             draws: Draws::new(seed),

@@ -1,5 +1,5 @@
 // A walk over every complete path, one after the other.
-ghost use Rattle.std.specs.Prelude.{◌≡◌, ◌+◌, ◌-◌, ◌*◌, ◌<◌, ◌≤◌, ◌⊎◌, true, max, replicate, slice_index};
+ghost use Rattle.std.specs.Prelude.{◌≡◌, ◌+◌, ◌-◌, ◌*◌, ◌<◌, ◌≤◌, ◌⊎◌, true, min, max, replicate, slice_index};
 ghost use Rattle.theory.specs.Tasks.{below};
 ghost use Rattle.task.specs.Filing.{filed_task};
 
@@ -87,7 +87,8 @@ impl Walked {
 
     // Counts a complete path, and keeps its length and its numerators where they are larger.
     fn take_in(&mut self, path: Path)
-        ensures { self.new.chain ≡ max self.old.chain path.entry.length }
+        ensures paths { self.new.paths ≡ min (self.old.paths + 1) u64.MAX }
+        ensures chain { self.new.chain ≡ max self.old.chain path.entry.length }
     {
         let parallel = work(path.task, path.interfering);
         self.paths = self.paths.saturating_add(1);
