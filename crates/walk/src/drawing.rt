@@ -121,7 +121,7 @@ impl Drawing<'_> {
         requires drawn { F.IsAlwaysCallable drawn }
     {
         let priorities = &mut room[..self.pieces];
-        for p in &mut *priorities {
+        for p in priorities.iter_mut() {
             *p = drawn(self.draws);
         }
         self.linking.rank(priorities)
