@@ -112,6 +112,7 @@ impl Drawing<'_> {
     }
 
     // Ranks the pieces by priorities that are drawn one after the other, into as much of the room as it takes.
+    // The room is handed in, since nothing bounds the size of an array of any kind of priority.
     fn rank<P: Priority + Drop, F: FnMut(&mut Draws) -> P>(
         &mut self,
         room: &mut [P],

@@ -60,6 +60,7 @@ pub(crate) struct Walked {
     ghost short: { chain ≤ 4194240 },
 }
 
+// Written out, since none is derived on a struct with a ghost field.
 impl Default for Walked {
     ghost is_default = { λ w. (w.paths ≡ 0) × (w.chain ≡ 0) × (w.numerators ≡ replicate 16 0) };
 
