@@ -1,3 +1,2 @@
--- Lemmas on worst times, and on what lies behind a piece.
+-- Lemmas on worst times.
 pub mod Times
-pub mod Behind

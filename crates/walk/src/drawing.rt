@@ -1,12 +1,32 @@
 // Small tasks by lot: 0 to 9 pieces, few or many edges, and no, plain or banded priorities.
-ghost use Rattle.std.specs.Prelude.{◌≡◌, ◌≤◌, length, IfOk};
+ghost use Rattle.std.specs.Prelude.{◌≡◌, ◌<◌, ◌≤◌, length, IfOk, IsPermutation};
 ghost use Rattle.task.specs.Filing.{entered, linking_task, filed_task};
 
 use crate::draws::Draws;
 use example::lists::Refusal;
-use task::priorities::{Band, Banded, Plain};
+use task::priorities::{Band, Banded, Plain, Priority};
 use task::refusals::{EdgeRefusal, PieceRefusal, RankingRefusal};
 use task::stages::{Entering, Filed, Linking};
+
+// The kinds of ranking.
+#[derive(Clone, Copy)]
+enum Ranking {
+    None,
+    Plain,
+    Banded,
+}
+
+// One task in five is not ranked, two by plain priorities and two by banded ones.
+const RANKINGS: [Ranking; 5] = [
+    Ranking::None,
+    Ranking::Plain,
+    Ranking::Plain,
+    Ranking::Banded,
+    Ranking::Banded,
+];
+
+// The bands, of which each is as likely.
+const BANDS: [Band; 4] = [Band::Zero, Band::One, Band::Two, Band::Three];
 
 // A worst time: mostly small, so that sums often tie, and now and then the largest there is.
 fn drawn_worst(draws: &mut Draws) -> u32
@@ -16,7 +36,7 @@ fn drawn_worst(draws: &mut Draws) -> u32
     if draws.chance(4) {
         return 65535;
     }
-    1 + draws.below(9)
+    1 + draws.below(9) as u32
 }
 
 // So many pieces.
@@ -30,102 +50,109 @@ fn drawn_pieces(draws: &mut Draws, n: usize) -> Result<Entering, PieceRefusal>
     Ok(entering)
 }
 
-// The first n of nine numbers in an order by lot: each trades places with one that is not behind it.
-fn drawn_order(draws: &mut Draws, n: usize) -> [usize; 9]
-    requires { n ≤ 9 }
+// A plain priority by lot, of which several are equal.
+fn drawn_plain(draws: &mut Draws) -> Plain
+    ensures { result.0 < 5 }
 {
-    let mut order = [0, 1, 2, 3, 4, 5, 6, 7, 8];
-    for k in 0..n {
-        let j = draws.below(k as u32 + 1) as usize;
-        let moved = order[k];
-        order[k] = order[j];
-        order[j] = moved;
-    }
-    order
+    Plain(draws.below(5) as u8)
 }
 
-// An edge, or none: by lot.
-fn drawn_edge(
-    draws: &mut Draws,
-    linking: &mut Linking,
-    percent: u32,
-    before: usize,
-    after: usize,
-) -> Result<(), EdgeRefusal>
-    ensures { (linking_task linking.new).pieces ≡ (linking_task linking.old).pieces }
+// A banded priority by lot.
+fn drawn_banded(draws: &mut Draws) -> Banded
+    ensures { result.number < 3 }
 {
-    if !draws.chance(percent) {
-        return Ok(());
+    let band = BANDS[draws.below(4)];
+    Banded {
+        band,
+        number: draws.below(3) as u8,
     }
-    linking.link(before, after)
 }
 
-// Edges by lot, each from a piece to one behind it in an order by lot, so that they close no circle and the numbers of the pieces
-// say nothing of who waits for whom.
-fn drawn_edges(draws: &mut Draws, linking: &mut Linking, n: usize) -> Result<(), EdgeRefusal>
-    requires { n ≤ 9 }
-    ensures { (linking_task linking.new).pieces ≡ (linking_task linking.old).pieces }
+// Puts the numbers into an order by lot: each trades places with one that is not behind it.
+fn shuffle(draws: &mut Draws, order: &mut [usize])
+    ensures { IsPermutation order.old order.new }
 {
-    let order = drawn_order(draws, n);
-    let percent = 10 + 20 * draws.below(5);
-    for after in 0..n {
-        for before in 0..after {
-            drawn_edge(draws, linking, percent, order[before], order[after])?;
+    for k in 0..order.len() {
+        order.swap(k, draws.below(k + 1));
+    }
+}
+
+// A task whose edges and priorities are being drawn.
+#[derive(Drop)]
+struct Drawing<'d> {
+    draws: &'d mut Draws,
+    linking: Linking,
+    pieces: usize,
+    ghost few: { pieces ≤ 9 },
+    ghost counted: { (linking_task linking).pieces ≡ pieces },
+}
+
+impl Drawing<'_> {
+    // An edge, or none: by lot.
+    fn edge(&mut self, percent: usize, before: usize, after: usize) -> Result<(), EdgeRefusal> {
+        if !self.draws.chance(percent) {
+            return Ok(());
+        }
+        self.linking.link(before, after)
+    }
+
+    // Edges by lot, each from a piece to one behind it in an order by lot, so that they close no circle and the numbers of the
+    // pieces say nothing of who waits for whom.
+    fn edges(&mut self) -> Result<(), EdgeRefusal> {
+        let mut order = [0, 1, 2, 3, 4, 5, 6, 7, 8];
+        shuffle(self.draws, &mut order[..self.pieces]);
+        let order = &order[..self.pieces];
+        let percent = 10 + 20 * self.draws.below(5);
+        for (k, &after) in order.iter().enumerate() {
+            for &before in &order[..k] {
+                self.edge(percent, before, after)?;
+            }
+        }
+        Ok(())
+    }
+
+    // Ranks the pieces by priorities that are drawn one after the other, into as much of the room as it takes.
+    // The room is handed in, since nothing bounds the size of an array of any kind of priority.
+    fn rank<P: Priority + Drop, F: FnMut(&mut Draws) -> P>(
+        &mut self,
+        room: &mut [P],
+        mut drawn: F,
+    ) -> Result<(), RankingRefusal>
+        requires room { self.old.pieces ≤ length room.old }
+        requires drawn { F.IsAlwaysCallable drawn }
+    {
+        let priorities = &mut room[..self.pieces];
+        for p in priorities.iter_mut() {
+            *p = drawn(self.draws);
+        }
+        self.linking.rank(priorities)
+    }
+
+    // No priorities, plain ones or banded ones.
+    fn ranking(&mut self) -> Result<(), RankingRefusal> {
+        match RANKINGS[self.draws.below(5)] {
+            Ranking::None => Ok(()),
+            Ranking::Plain => self.rank(&mut [Plain(0); 9], drawn_plain),
+            Ranking::Banded => {
+                let least = Banded {
+                    band: Band::Zero,
+                    number: 0,
+                };
+                self.rank(&mut [least; 9], drawn_banded)
+            }
         }
     }
-    Ok(())
-}
 
-// A band by lot.
-fn drawn_band(draws: &mut Draws) -> Band {
-    match draws.below(4) {
-        0 => Band::Zero,
-        1 => Band::One,
-        2 => Band::Two,
-        _ => Band::Three,
-    }
-}
-
-// Plain priorities by lot, of which several are equal.
-fn rank_plain(draws: &mut Draws, linking: &mut Linking, n: usize) -> Result<(), RankingRefusal>
-    requires { n ≤ 9 }
-    ensures { (linking_task linking.new).pieces ≡ (linking_task linking.old).pieces }
-{
-    let mut priorities = [Plain(0); 9];
-    for k in 0..n {
-        priorities[k] = Plain(draws.below(5) as u8);
-    }
-    linking.rank(&priorities[0..n])
-}
-
-// Banded priorities by lot.
-fn rank_banded(draws: &mut Draws, linking: &mut Linking, n: usize) -> Result<(), RankingRefusal>
-    requires { n ≤ 9 }
-    ensures { (linking_task linking.new).pieces ≡ (linking_task linking.old).pieces }
-{
-    let mut priorities = [Banded {
-        band: Band::Zero,
-        number: 0,
-    }; 9];
-    for k in 0..n {
-        let band = drawn_band(draws);
-        priorities[k] = Banded {
-            band,
-            number: draws.below(3) as u8,
-        };
-    }
-    linking.rank(&priorities[0..n])
-}
-
-// No priorities, plain ones or banded ones.
-fn drawn_ranking(draws: &mut Draws, linking: &mut Linking, n: usize) -> Result<(), RankingRefusal>
-    requires { n ≤ 9 }
-    ensures { (linking_task linking.new).pieces ≡ (linking_task linking.old).pieces }
-{
-    match draws.below(5) {
-        0 => Ok(()),
-        1 | 2 => rank_plain(draws, linking, n),
-        _ => rank_banded(draws, linking, n),
+    // The task is drawn.
+    fn file(self) -> Filed
+        ensures { (filed_task result).pieces ≤ 9 }
+    {
+        let Drawing {
+            linking,
+            draws: _,
+            pieces: _,
+        } = self;
+        linking.file()
     }
 }
 
@@ -133,9 +160,14 @@ fn drawn_ranking(draws: &mut Draws, linking: &mut Linking, n: usize) -> Result<(
 pub(crate) fn drawn_task(draws: &mut Draws) -> Result<Filed, Refusal>
     ensures { IfOk result (λ f. (filed_task f).pieces ≤ 9) }
 {
-    let n = draws.below(10) as usize;
-    let mut linking = drawn_pieces(draws, n)?.close();
-    drawn_edges(draws, &mut linking, n)?;
-    drawn_ranking(draws, &mut linking, n)?;
-    Ok(linking.file())
+    let pieces = draws.below(10);
+    let linking = drawn_pieces(draws, pieces)?.close();
+    let mut drawing = Drawing {
+        draws,
+        linking,
+        pieces,
+    };
+    drawing.edges()?;
+    drawing.ranking()?;
+    Ok(drawing.file())
 }

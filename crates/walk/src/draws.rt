@@ -24,18 +24,18 @@ impl Draws {
     }
 
     // The next number brought below n, and 0 where nothing is below n.
-    pub(crate) fn below(&mut self, n: u32) -> u32
+    pub(crate) fn below(&mut self, n: usize) -> usize
         ensures some { 0 < n → result < n }
         ensures none { n ≡ 0 → result ≡ 0 }
     {
         if n == 0 {
             return 0;
         }
-        (self.next() % n as u64) as u32
+        self.next() as usize % n
     }
 
     // Whether something comes to pass that does so in so many of a hundred cases.
-    pub(crate) fn chance(&mut self, percent: u32) -> bool
+    pub(crate) fn chance(&mut self, percent: usize) -> bool
         ensures never { percent ≡ 0 → result ≡ false }
         ensures always { 100 ≤ percent → result ≡ true }
     {

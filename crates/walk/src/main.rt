@@ -7,8 +7,7 @@ mod draws;
 mod interfering;
 mod walking;
 
-use comparing::{Ending, Tally, compare_all};
-use draws::Draws;
+use comparing::Comparison;
 use std::io;
 
 // How many tasks are drawn.
@@ -17,40 +16,13 @@ const TASKS: u32 = 4000;
 // The seed that they are drawn from.
 const SEED: u64 = 20;
 
-// The scratch of 9 pieces: (9 + 2) × (9 + 2) numbers.
-const SCRATCH: usize = 121;
-
-// What was held against what, and how it ended.
-fn print_ending(rt: &impl Print, tally: &Tally, ending: &Ending) -> io::Result<()> {
-    let tasks = tally.tasks;
-    let paths = tally.paths;
-    let comparisons = tally.comparisons;
-    print!(rt; "{tasks} tasks, {paths} complete paths, {comparisons} comparisons: ")?;
-    match ending {
-        Ending::Agreed => println!(rt; "no difference"),
-        Ending::Differed(d) => {
-            let cores = d.cores;
-            let what = d.what;
-            let walked = d.walked;
-            let called = d.called;
-            println!(rt;
-                "task {tasks} on {cores} cores, {what}: the walk says {walked}, the call {called}"
-            )
-        }
-        Ending::Unfiled(number) => println!(rt;
-            "task {tasks} was not filed, refused with {number}"
-        ),
-        Ending::Unbounded(number) => println!(rt;
-            "task {tasks} was not bounded, refused with {number}"
-        ),
-    }
-}
-
-// Draws, compares and prints. The scratch is full of ones at first, and then as the last call left it, so that a call that leans on what was there shows.
+// Draws, compares and prints.
 fn main(rt: HostRuntime) -> io::Result<()> {
-    let mut draws = Draws::new(SEED);
-    let mut tally = Tally::none();
-    let mut scratch = [u64::MAX; SCRATCH];
-    let ending = compare_all(&mut draws, TASKS, &mut scratch, &mut tally);
-    print_ending(&rt, &tally, &ending)
+    let mut comparison = Comparison::new(SEED);
+    let compared = comparison.compare_all(TASKS);
+    let tally = comparison.tally();
+    match compared {
+        Ok(()) => println!(rt; "{tally}: no difference"),
+        Err(stop) => println!(rt; "{tally}: task {} {stop}", tally.tasks),
+    }
 }
