@@ -65,14 +65,7 @@ other_end n R ends k x = either_end (ltb x n) (ltb k n) (R k x) (λ e. lt-ltb x 
 pub related_at : (t : Task) (R : ℕ → ℕ → Bool) (k r : ℕ) → k < t.pieces → Related t R k r → (x : ℕ) → member r x ≡ R x k
 related_at t R k r on_task related x = related x ∙ ap (λ b. b && R x k) (lt-ltb k t.pieces on_task)
 
--- what is in the set of a piece's ancestors is one, and a piece of the task
-pub ancestor_in : {t : Task} → Lawful t → (w set u : ℕ) → w < t.pieces → Related t t.ancestor w set → member set u ≡ true
-    → (t.ancestor u w ≡ true) × (u < t.pieces)
-ancestor_in {t} law w set u on_task related h =
-    let is = sym (related_at t t.ancestor w set on_task related u) ∙ h in
-    (is, (ancestor_ends law u w is).0)
-
--- and it is exactly what leads to the piece, of which there is nothing past the task
+-- the set of a piece's ancestors is exactly what leads to it, of which there is nothing past the task
 pub related_leads : {t : Task} → Lawful t → (k r : ℕ) → Related t t.ancestor k r → (x : ℕ) → (member r x ≡ true) ↔ ∥ Leads t x k ∥₁
 related_leads {t} law k r related x = (
   λ h. (law.exact x k).0 (and_parts (ltb k t.pieces) (t.ancestor x k) (sym (related x) ∙ h)).1,

@@ -1,10 +1,11 @@
 -- Tables of sets as filing writes them, set by set. Assumes nothing.
-use Rattle.std.proofs.Common.{◌≡◌, ℕ, ◌+◌, ◌<◌, ◌≤◌, Bool, true, false, ◌&&◌, ◌||◌, eqb, ltb, List, length, get_or, set, sym, refl, ap, ◌∙◌, ap₂, ⊎_elim, arith, get_or-set_other, get_or-set_same}
+use Rattle.std.proofs.Common.{◌≡◌, ℕ, ◌+◌, ◌<◌, ◌≤◌, Bool, true, false, cond, ◌&&◌, ◌||◌, eqb, ltb, List, length, get_or, set, sym, refl, ap, ◌∙◌, ap₂, ⊎_elim, arith, get_or-set_other, get_or-set_same}
 use mathlib.Core.Bool.{or-false}
+use lib.Bits.{bit_or}
 use Rattle.std.proofs.lemmas.List.{get_or_past}
 use Rattle.std.proofs.lemmas.Bool.{cases_lt, cases_eq, eq-eqb, ne_eqb, lt-ltb, le-ltb, and_right, or_from, and_left}
 use Rattle.sets.specs.Sets.{member, SetOf}
-use Rattle.sets.proofs.Members.{member-zero}
+use Rattle.sets.proofs.Members.{member-or, member-zero}
 use Rattle.sets.proofs.Tables.{set_below}
 use Rattle.task.specs.Tables.{leads_on, Reached, Columns, EmptyFrom}
 
@@ -41,6 +42,11 @@ all_below n set few all k =
     (cases_lt k n)
 
 -- ---- the ancestors with one more edge
+
+-- a set, with another where the test says so
+pub member_joined : (b : Bool) (s more x : ℕ) → member (cond b (bit_or s more) s) x ≡ (member s x || (b && member more x))
+member_joined true s more x = member-or s more x
+member_joined false s more x = sym (or-false (member s x))
 
 pub swapped : (m e : Bool) → (m || (e && true)) ≡ (e || m)
 swapped true true = refl

@@ -10,13 +10,6 @@ use crate::refusals::{EdgeRefusal, RankingRefusal};
 use crate::stages::{Filed, Linking, Tables};
 use sets::{has, table_of, with};
 
-// The set, with the pieces of another where they are to be added.
-fn joined(set: u64, add: bool, more: u64) -> u64
-    ensures { (j : ℕ) → member result j ≡ (member set j || (add && member more j)) }
-{
-    if add { set | more } else { set }
-}
-
 // What leads to each piece once there is an edge from before to after: to `after`, and to whatever `after` leads to,
 // `before` leads now, and whatever leads to `before`.
 fn reached(ancestors: &[u64; 64], before: usize, after: usize) -> [u64; 64]
@@ -26,11 +19,11 @@ fn reached(ancestors: &[u64; 64], before: usize, after: usize) -> [u64; 64]
 {
     let gained = with(ancestors[before], before, true);
     table_of(64, |k| {
-        joined(
-            ancestors[k],
-            (k == after) | has(ancestors[k], after),
-            gained,
-        )
+        if k == after || has(ancestors[k], after) {
+            ancestors[k] | gained
+        } else {
+            ancestors[k]
+        }
     })
 }
 
