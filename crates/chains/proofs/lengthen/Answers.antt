@@ -1,17 +1,9 @@
 -- Each turn writes the chain of one more piece of the level: all that follow it are deeper, so that theirs are known.
-use Rattle.std.proofs.Common.{◌≡◌, ap, ◌∙◌, arith}
-use Rattle.sets.proofs.Iterating.{within_none, within_more}
+use Rattle.std.proofs.Common.{arith}
+use Rattle.sets.proofs.Iterating.{within_more}
 use Rattle.task.proofs.Filed.{filed_lawful}
-use Rattle.chains.proofs.Knowing.{level_start, level_end, level_fits, level_turn}
+use Rattle.chains.proofs.Knowing.{level_fits, level_turn}
 use Rattle.chains.proofs.lengthen.Goals as goal
-
-pub loop-v-init : goal.loop-v-init
-loop-v-init c =
-    let start : c.into_iter-v-iterator.result.rest ≡ c.at-set.result = ap (λ p. p.rest) c.into_iter-v-iterator.ensures.into_iter_gives ∙ c.pieces_of-v-items.ensures in (
-      within_none c.at-set.result _ start,
-      level_start (filed_lawful c.args.task.now) c.args.levels.now c.requires.sorted c.args.level c.at-set.result c.at-set.ensures _ c.args.lengths.now start
-          c.requires.deeper,
-    )
 
 pub overflow_add-lengths : goal.overflow_add-lengths
 overflow_add-lengths c =
@@ -33,8 +25,3 @@ loop-v-preserved c =
           rest next c.in-Some.v c.loop-v.invariant.0 taken.1.0 taken.2 c.loop-v.lengths c.loop-v.invariant.1
           c.successors.result c.longest_of.result c.worst.result c.longest_of.ensures c.worst.ensures (omega arith) c.successors.ensures,
     )
-
-pub returns : goal.returns
-returns c =
-    level_end (filed_lawful c.args.task.now) c.args.levels.now c.requires.sorted c.args.level c.at-set.result c.at-set.ensures
-    c.loop-v.v-iterator.rest c.loop-v.lengths c.in-None.ensures.steps.0 c.loop-v.invariant.1

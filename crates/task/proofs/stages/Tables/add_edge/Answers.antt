@@ -21,11 +21,3 @@ invariant_of-self c =
           (linked_of s.pieces s.worst s.predecessors s.ancestors c.reached-ancestors.result s.not_after a b c.with.result room (c.with.ensures.added (omega arith)))
           (reached_all s.ancestors c.reached-ancestors.result a b old new (omega arith) c.reached-ancestors.ensures) ∣₁;
     }
-
-pub returns : goal.returns
-returns c =
-    let s = c.args.self.now in
-    let a = c.args.before in
-    let b = c.args.after in
-    let room : b < length s.predecessors = omega arith in
-    linked_of s.pieces s.worst s.predecessors s.ancestors c.reached-ancestors.result s.not_after a b c.with.result room (c.with.ensures.added (omega arith))
