@@ -1,13 +1,7 @@
 -- What runs has a tick left, and what it leaves is sound.
-use Rattle.std.proofs.Common.{sym, ◌∙◌, arith}
-use Rattle.theory.proofs.Platforms.{sound_of, room}
+use Rattle.theory.proofs.Platforms.{sound_of}
 use Rattle.platform.proofs.Holdings.{ends_also, held_works, held_sound}
 use Rattle.platform.proofs.held.Holding.work.Goals as goal
-
-pub one_more-requires : goal.one_more-requires
-one_more-requires c k h =
-    let b = c.args.self.now in
-    omega (arith, room (sound_of b.sound) c.args.set k (sym (c.running-runs.ensures k) ∙ h), b.most k)
 
 pub invariant_of-self-2 : goal.invariant_of-self-2
 invariant_of-self-2 c =
