@@ -1,6 +1,6 @@
 -- Tables of remaining chains as they fill up. Assumes nothing.
-use Rattle.std.proofs.Common.{◌≡◌, ℕ, ◌+◌, ◌<◌, ◌≤◌, Bool, true, false, cond, ◌&&◌, ◌||◌, eqb, ltb, leb, List, length, get_or, replicate, sym, refl, ap, ◌∙◌, subst, ⊎_elim, arith, get_or-set_other, get_or-set_same}
-use mathlib.Core.Bool.{or-false, or_assoc}
+use Rattle.std.proofs.Common.{◌≡◌, ℕ, ◌+◌, ◌<◌, ◌≤◌, Bool, true, false, cond, ◌||◌, eqb, ltb, List, length, get_or, replicate, sym, refl, ap, ◌∙◌, subst, ⊎_elim, arith, get_or-set_other, get_or-set_same}
+use mathlib.Core.Bool.{or_assoc}
 use lib.ListN as ListN
 use Rattle.std.proofs.lemmas.Bool.{both_ways, cases_Bool, cases_eq, cases_lt, or_cases, or_left, or_right, or_parts, eqb-true, eq-eqb, cond-true, lt-ltb, le-leb, lt-leb}
 use Rattle.sets.specs.Sets.{member, SetOf, Without, LargestWhere}
@@ -8,7 +8,7 @@ use Rattle.sets.specs.Levels.{level_of, ByKey}
 use Rattle.sets.specs.declared.levels.Levelled.{Levelled}
 use Rattle.sets.proofs.Tables.{zeros}
 use Rattle.sets.proofs.Members.{set_true}
-use Rattle.sets.proofs.Iterating.{passed, Within, passed_none, passed_more, passed_all}
+use Rattle.sets.proofs.Iterating.{passed, Within, passed_more}
 use Rattle.sets.proofs.Bests.{largest_same}
 use Rattle.sets.proofs.Levelling.{by_key_at}
 use Rattle.theory.specs.Tasks.{Task, above, Lawful}
@@ -18,16 +18,9 @@ use Rattle.theory.proofs.Remaining.{remaining_step, remaining_small}
 use Rattle.theory.proofs.Sizes.{volume_most}
 use Rattle.task.specs.Filing.{Related}
 use Rattle.task.proofs.Filed.{related_at}
-use Rattle.chains.specs.Chains.{deep, Known, Remainders}
+use Rattle.chains.specs.Chains.{deep, Known}
 
 module _ (t : Task) where
-  -- only what the test says of pieces counts
-  known_same : (p q : ℕ → Bool) (lengths : List ℕ) → ((v : ℕ) → v < t.pieces → p v ≡ q v) → Known t p lengths → Known t q lengths
-  known_same p q lengths same k = record {
-    exact = λ v l h. k.exact v l (same v l ∙ h);
-    open_yet = λ v none. k.open_yet v (λ l. same v l ∙ none l);
-  }
-
   -- nothing is known at first
   known_none : (p : ℕ → Bool) → ((v : ℕ) → v < t.pieces → p v ≡ false) → Known t p (replicate 64 0)
   known_none p none = record { exact = λ v l h. absurd (both_ways (p v) (none v l) h); open_yet = λ v _. zeros 64 v }
@@ -68,10 +61,6 @@ module _ {t : Task} (law : Lawful t) where
       (λ w. sym (related_at t (λ x y. t.edge y x) v after on_task related w)) most)
       (λ w e. k.exact w (law.ends v w e).1 (ready w e))
 
--- as many or more: one level deeper, or exactly here
-deeper : (d l : ℕ) → (leb (l + 1) d || eqb d l) ≡ leb l d
-deeper d l = grind (arith)
-
 -- a loop over the pieces of a level, of which the rest is to come
 module _ {t : Task} (law : Lawful t) (levels : Levelled) (sorted : ByKey (above t) t.pieces levels) (level set : ℕ) (same : set ≡ level_of levels level) where
   at : SetOf t.pieces (λ j. eqb (above t j) level) set
@@ -80,18 +69,6 @@ module _ {t : Task} (law : Lawful t) (levels : Levelled) (sorted : ByKey (above 
   -- known are the deeper pieces, and those of the level that were passed
   abbrev reached : ℕ → ℕ → Bool
   reached rest v = deep t (level + 1) v || passed set rest v
-
-  pub level_start : (rest : ℕ) (lengths : List ℕ) → rest ≡ set → Known t (deep t (level + 1)) lengths → Known t (reached rest) lengths
-  level_start rest lengths e =
-      known_same t (deep t (level + 1)) (reached rest) lengths
-      (λ v _. sym (ap (λ b. deep t (level + 1) v || b) (passed_none set rest e v) ∙ or-false (deep t (level + 1) v)))
-
-  pub level_end : (rest : ℕ) (lengths : List ℕ) → rest ≡ 0 → Known t (reached rest) lengths → Known t (deep t level) lengths
-  level_end rest lengths e =
-      known_same t (reached rest) (deep t level) lengths
-      (λ v l. ap (λ b. deep t (level + 1) v || b)
-      (passed_all set rest e v ∙ at v ∙ ap (λ b. b && eqb (above t v) level) (lt-ltb v t.pieces l))
-      ∙ deeper (above t v) level)
 
   -- piece v is taken, with what comes after it
   module _ (rest next v : ℕ) (inside : Within rest set) (here : member rest v ≡ true) (without : Without rest v next) (lengths : List ℕ)
@@ -125,9 +102,3 @@ module _ {t : Task} (law : Lawful t) (levels : Levelled) (sorted : ByKey (above 
 module _ {t : Task} (law : Lawful t) where
   pub known_start : Known t (deep t 64) (replicate 64 0)
   known_start = known_none t (deep t 64) (λ v l. lt-leb 64 (above t v) (omega (arith, above_few law v l, law.few)))
-
-  pub known_all : (lengths : List ℕ) → Known t (deep t 0) lengths → Remainders t lengths
-  known_all lengths k = record {
-    on_task = λ v l. k.exact v l (le-leb 0 (above t v) (omega arith));
-    others = λ v l. k.open_yet v (λ m. absurd (omega arith));
-  }

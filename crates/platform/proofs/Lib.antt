@@ -3,5 +3,3 @@ pub mod Copying
 pub mod Fresh
 pub mod Ticking
 pub mod Holdings
-pub mod Timing
-pub mod ScriptLemmas

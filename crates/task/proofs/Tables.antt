@@ -1,13 +1,12 @@
 -- Tables of sets as filing writes them, set by set. Assumes nothing.
-use Rattle.std.proofs.Common.{◌≡◌, ℕ, ◌+◌, ◌<◌, ◌≤◌, Bool, true, false, cond, ◌&&◌, ◌||◌, eqb, ltb, List, length, get_or, set, sym, refl, ap, ◌∙◌, ap₂, ⊎_elim, arith, get_or-set_other, get_or-set_same}
+use Rattle.std.proofs.Common.{◌≡◌, ℕ, ◌<◌, ◌≤◌, Bool, true, false, cond, ◌&&◌, ◌||◌, eqb, ltb, List, length, get_or, set, sym, refl, ap, ◌∙◌, ap₂, ⊎_elim, arith, get_or-set_other, get_or-set_same}
 use mathlib.Core.Bool.{or-false}
 use lib.Bits.{bit_or}
 use Rattle.std.proofs.lemmas.List.{get_or_past}
 use Rattle.std.proofs.lemmas.Bool.{cases_lt, cases_eq, eq-eqb, ne_eqb, lt-ltb, le-ltb, and_right, or_from, and_left}
 use Rattle.sets.specs.Sets.{member, SetOf}
 use Rattle.sets.proofs.Members.{member-or, member-zero}
-use Rattle.sets.proofs.Tables.{set_below}
-use Rattle.task.specs.Tables.{leads_on, Reached, Columns, EmptyFrom}
+use Rattle.task.specs.Tables.{leads_on, Reached, Columns}
 
 -- one more edge
 pub edges_more : (l : List ℕ) (a b new : ℕ) → b < length l → ((j : ℕ) → member new j ≡ (member (get_or l b 0) j || (eqb a j && true)))
@@ -22,14 +21,6 @@ edges_more l a b new h w x y =
     (cases_eq y b)
 
 -- ---- a table of sets that a loop writes one by one
-
--- those past the one written are empty as they were
-pub empty_more : (l : List ℕ) (i v : ℕ) → EmptyFrom i l → EmptyFrom (i + 1) (set l i v)
-empty_more l i v h y x lt = ap (λ n. member n x) (get_or-set_other l i y v 0 (λ e. omega arith)) ∙ h y x (omega arith)
-
--- those up to the one written hold what passes the test
-pub columns_more : (n : ℕ) (p : ℕ → ℕ → Bool) (l : List ℕ) (i v : ℕ) → i < length l → Columns n p i l → SetOf n (λ x. p x i) v → Columns n p (i + 1) (set l i v)
-columns_more n p l i v h old new = set_below (λ y set. SetOf n (λ x. p x y) set) l i v h old new
 
 pub columns_none : (n : ℕ) (p : ℕ → ℕ → Bool) (l : List ℕ) → Columns n p 0 l
 columns_none n p l y h = absurd (omega arith)
