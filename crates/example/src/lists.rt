@@ -20,7 +20,7 @@ pub enum Refusal {
 }
 
 impl Refusal {
-    // The number of the refusal that is passed on.
+    // The number of the refusal that is passed on, by the method that each of the three has of its own.
     pub fn number(self) -> u8
         ensures { result ≡ refusal_number self }
     {

@@ -12,7 +12,7 @@ pub enum BoundRefusal {
 }
 
 impl BoundRefusal {
-    // The refusal's number: 31 or 32.
+    // The refusal's number: 31 or 32. A call by From or Into would not say that it is a refusal's.
     pub fn number(self) -> u8
         ensures { result ≡ bound_number self }
     {
