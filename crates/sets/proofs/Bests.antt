@@ -1,6 +1,6 @@
 -- The largest value over the pieces that pass a test, and the largest that is answered of them, turn by turn. Assumes nothing.
-use Rattle.std.proofs.Common.{◌≡◌, ℕ, ◌<◌, ◌≤◌, max, Bool, true, false, ◌||◌, eqb, ◌⊎◌, sym, refl, ◌∙◌, subst, inl, inr, ⊎_elim, arith}
-use Rattle.std.proofs.lemmas.Bool.{both_ways, cases_lt, or_cases, or_left, or_right, eqb-true, eq-eqb}
+use Rattle.std.proofs.Common.{◌≡◌, ℕ, ◌<◌, ◌≤◌, max, Bool, true, ◌||◌, eqb, ◌⊎◌, sym, refl, ◌∙◌, subst, inl, inr, ⊎_elim, arith}
+use Rattle.std.proofs.lemmas.Bool.{cases_lt, or_cases, or_left, or_right, eqb-true, eq-eqb}
 use Rattle.sets.specs.Sets.{LargestWhere}
 use Rattle.sets.specs.Over.{LargestAnswer}
 
@@ -20,10 +20,6 @@ largest_answered p answer f n only l = record {
 }
 
 module _ (p q : ℕ → Bool) (answer : ℕ → ℕ → Type 0) where
-  -- none passes
-  pub answered_none : ((k : ℕ) → p k ≡ false) → LargestAnswer p answer 0
-  answered_none none = record { bounds = λ k h. absurd (both_ways (p k) (none k) h); reached = inl refl }
-
   pub answered_same : (n : ℕ) → ((k : ℕ) → q k ≡ p k) → LargestAnswer p answer n → LargestAnswer q answer n
   answered_same n same l = record {
     bounds = λ k h. l.bounds k (sym (same k) ∙ h);

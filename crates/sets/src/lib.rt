@@ -1,5 +1,6 @@
 // Sets of pieces as masks: bit k of a set, worth 2 to the power k, stands for piece k, 0 to 63.
-// A number above 63 is no piece: it is in no set, and adding or removing it changes nothing.
+// A number above 63 is no piece: it is in no set, and adding or removing it changes nothing. A set is a plain `u64`, with no type
+// of its own, as the project asks: whoever holds two joins them by `&` and `|`.
 #![tactic(auto)]
 
 ghost use Rattle.std.specs.Prelude.{◌≡◌, ℕ, ◌<◌, ◌≤◌, not, ◌&&◌, ◌||◌, ◌==◌, nat_lt};

@@ -1,14 +1,9 @@
 -- Each turn takes in the value of one more piece of the set, until it has all.
-use Rattle.std.proofs.Common.{◌≡◌, sym, ap, ◌∙◌}
+use Rattle.std.proofs.Common.{sym}
 use Rattle.sets.specs.Sets.{member}
-use Rattle.sets.proofs.Iterating.{passed, passed_none, passed_more, passed_all, within_none, within_more}
-use Rattle.sets.proofs.Bests.{answered_none, answered_more, answered_same}
+use Rattle.sets.proofs.Iterating.{passed, passed_more, passed_all, within_more}
+use Rattle.sets.proofs.Bests.{answered_more, answered_same}
 use Rattle.sets.proofs.over.largest_over.Goals as goal
-
-pub loop-k-init : goal.loop-k-init
-loop-k-init g c =
-    let start : c.into_iter-k-iterator.result.rest ≡ c.args.set = ap (λ p. p.rest) c.into_iter-k-iterator.ensures.into_iter_gives ∙ c.pieces_of-k-items.ensures in
-    (within_none c.args.set _ start, answered_none (passed c.args.set c.into_iter-k-iterator.result.rest) (member c.args.set) (goal.F-post g c.args.value) (passed_none c.args.set _ start))
 
 pub loop-k-preserved : goal.loop-k-preserved
 loop-k-preserved g c =
