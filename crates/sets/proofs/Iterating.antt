@@ -1,6 +1,6 @@
--- A loop over the pieces of a set: which it has passed, from its start to its end, and those that it gathers. Assumes nothing.
+-- A loop over the pieces of a set: which it has passed, from its start to its end. Assumes nothing.
 use Rattle.std.proofs.Common.{◌≡◌, ℕ, Bool, true, false, not, ◌&&◌, ◌||◌, eqb, sym, refl, ap, ◌∙◌}
-use mathlib.Core.Bool.{and-true, or-false}
+use mathlib.Core.Bool.{and-true, and-false}
 use Rattle.std.proofs.lemmas.Bool.{both_ways, and_parts, eqb-true}
 use Rattle.sets.specs.Sets.{member, Without}
 use Rattle.sets.proofs.Members.{member-zero}
@@ -44,28 +44,9 @@ module _ (set rest next k : ℕ) (inside : Within rest set) (here : member rest 
       ap (λ b. member set j && not b) (without j)
       ∙ one_more (member set j) (member rest j) (eqb k j) (inside j) (λ e. ap (member rest) (sym (eqb-true k j e)) ∙ here)
 
+  -- which was not passed before
+  pub passed_not : passed set rest k ≡ false
+  passed_not = ap (λ b. member set k && not b) here ∙ and-false (member set k)
+
   pub within_more : Within next set
   within_more j h = inside j (and_parts (member rest j) (not (eqb k j)) (sym (without j) ∙ h)).0
-
--- r has those of the pieces passed that pass a test
-abbrev pub Gathered : ℕ → ℕ → (ℕ → Bool) → ℕ → Type 0
-Gathered set rest p r = (j : ℕ) → member r j ≡ (passed set rest j && p j)
-
--- one is added where the test says so
-pub gathered_more : (set rest next k : ℕ) → Within rest set → member rest k ≡ true → Without rest k next
-    → (p : ℕ → Bool) (r s : ℕ) (add : Bool) → Gathered set rest p r → add ≡ p k → ((j : ℕ) → member s j ≡ (member r j || (eqb k j && add)))
-    → Gathered set next p s
-gathered_more set rest next k inside here without p r s add before is added j =
-    added j ∙ ap (λ b. b || (eqb k j && add)) (before j)
-    ∙ either (passed set rest j) (eqb k j) (p j) add (λ e. is ∙ ap p (eqb-true k j e))
-    ∙ sym (ap (λ b. b && p j) (passed_more set rest next k inside here without j))
-  where
-    either : (q e t a : Bool) → (e ≡ true → a ≡ t) → ((q && t) || (e && a)) ≡ ((q || e) && t)
-    either true true true a h = refl
-    either true true false a h = h refl
-    either true false t a h = or-false t
-    either false true t a h = h refl
-    either false false t a h = refl
-
-pub gathered_all : (set rest : ℕ) (p : ℕ → Bool) (r : ℕ) → rest ≡ 0 → Gathered set rest p r → (j : ℕ) → member r j ≡ (member set j && p j)
-gathered_all set rest p r e all j = all j ∙ ap (λ b. b && p j) (passed_all set rest e j)

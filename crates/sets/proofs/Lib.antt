@@ -9,3 +9,4 @@ pub mod Iterating
 pub mod Bests
 pub mod Levelling
 pub mod Made
+pub mod Answering

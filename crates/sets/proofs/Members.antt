@@ -7,7 +7,6 @@ use lib.Pow.{pow-lt}
 use Rattle.std.proofs.lemmas.Bool.{cases_lt, cases_order, both_ways, and_parts, and_from, eqb-true, eqb-false, eq-eqb, ne_eqb, lt-ltb, le-ltb, ltb-true, false≢true, true≢false}
 use Rattle.std.proofs.lemmas.Bool.Decides.{nat_tests as tells}
 use Rattle.sets.specs.Sets.{member, within, apart, SetOf}
-use Rattle.sets.specs.Over.{Filtered}
 use Rattle.sets.proofs.Bits.{bit, bit_two, bit_next, bit_first, bit-and, bit-or, bit-xor, bit_above, bit-zero, bit-not, bit_one, two_bits}
 
 -- ---- one member
@@ -82,12 +81,9 @@ below_first k m n h = grind (arith, tells)
 pub below_both : (k m n : ℕ) → n ≤ m → ltb k n ≡ (ltb k m && ltb k n)
 below_both k m n h = grind (arith, tells)
 
--- so that the first of 64 pieces are those below n, and of them those that pass a test a set of its own
+-- so that the first n of 64 pieces are those below n
 pub first_below : (n set : ℕ) → n ≤ 64 → SetOf 64 (λ k. ltb k n) set → (k : ℕ) → member set k ≡ ltb k n
 first_below n set few first k = first k ∙ sym (below_both k 64 n few)
-
-pub set_filtered : (n set r : ℕ) (p : ℕ → Bool) → n ≤ 64 → SetOf 64 (λ k. ltb k n) set → Filtered set p r → SetOf n p r
-set_filtered n set r p few first filtered k = filtered k ∙ ap (λ b. b && p k) (first_below n set few first k)
 
 -- `a & !b` at w bits
 pub member-minus : (a b w k : ℕ) → a < 2 ^ w → b < 2 ^ w → member (bit_and a (2 ^ w - 1 - b)) k ≡ (member a k && not (member b k))

@@ -1,21 +1,24 @@
--- What a closure answers of the pieces of a set, and the pieces that it lets pass. Assumes nothing.
-use Rattle.std.specs.Prelude.{◌≡◌, ℕ, ◌≤◌, Bool, true, ◌&&◌, ◌⊎◌}
-use Rattle.sets.specs.Sets.{member, size_of}
+-- What comes of asking the pieces that pass a test one by one, where answer k r says that r may be answered of piece k. Assumes nothing.
+use Rattle.std.specs.Prelude.{◌≡◌, ℕ, ◌≤◌, Bool, true, false, cond, ◌⊎◌}
+use Rattle.sets.specs.Sets.{member, sum}
 
--- f k is the one thing that is answered of piece k, for each piece of the set
-abbrev pub Answers : {A : Type 0} → ℕ → (ℕ → A → Type 0) → (ℕ → A) → Type 0
-Answers {A} set answer f = (k : ℕ) (r : A) → member set k ≡ true → answer k r → r ≡ f k
+-- the sum of f over the pieces that pass the test; shut, so that no goal spells out 64 terms
+unfoldable pub sum_where : (ℕ → Bool) → (ℕ → ℕ) → ℕ
+sum_where p f = sum 64 (λ k. cond (p k) (f k) 0)
 
--- r has the pieces of the set that pass the test
-abbrev pub Filtered : ℕ → (ℕ → Bool) → ℕ → Type 0
-Filtered set p r = (k : ℕ) → member r k ≡ (member set k && p k)
+module _ (p : ℕ → Bool) where
+  -- r has each of the pieces as is answered of it, and no other piece
+  pub record FilterAnswer (answer : ℕ → Bool → Type 0) (r : ℕ) : Type 0 where
+    pub asked : (k : ℕ) → p k ≡ true → answer k (member r k)
+    pub others : (k : ℕ) → p k ≡ false → member r k ≡ false
 
--- n is the largest of the numbers that are answered of the pieces that pass the test, and 0 where none does: none is larger, and
--- one is as large
-pub record LargestAnswer (p : ℕ → Bool) (answer : ℕ → ℕ → Type 0) (n : ℕ) : Type 0 where
-  pub bounds : (k : ℕ) → p k ≡ true → (r : ℕ) × answer k r × (r ≤ n)
-  pub reached : (n ≡ 0) ⊎ ((k : ℕ) × (p k ≡ true) × answer k n)
+  -- n is the largest of the numbers that are answered, and 0 where no piece passes: none is larger, and one is as large
+  pub record LargestAnswer (answer : ℕ → ℕ → Type 0) (n : ℕ) : Type 0 where
+    pub bounds : (k : ℕ) → p k ≡ true → (r : ℕ) × answer k r × (r ≤ n)
+    pub reached : (n ≡ 0) ⊎ ((k : ℕ) × (p k ≡ true) × answer k n)
 
--- key k is the size of the set that is answered of piece k, for each of the pieces
-abbrev pub Sizes : ℕ → (ℕ → ℕ → Type 0) → (ℕ → ℕ) → Type 0
-Sizes pieces answer key = (k set : ℕ) → member pieces k ≡ true → answer k set → size_of set ≡ key k
+  -- n is the sum of the numbers that are answered, one of each piece
+  pub record SumAnswer (answer : ℕ → ℕ → Type 0) (n : ℕ) : Type 0 where
+    pub value : ℕ → ℕ
+    pub asked : (k : ℕ) → p k ≡ true → answer k (value k)
+    pub adds : n ≡ sum_where p value

@@ -1,8 +1,7 @@
 // Sets of pieces by a level that each of them has, so that pieces can be gone through in the order of their levels.
 ghost use Rattle.std.specs.Prelude.{◌≡◌, ℕ, ◌<◌, ◌≤◌, true, false, ◌&&◌, ◌||◌, ◌⊎◌, ◌==◌};
 ghost use Rattle.sets.specs.Sets.{member};
-ghost use Rattle.sets.specs.Levels.{level_of};
-ghost use Rattle.sets.specs.Over.{Sizes};
+ghost use Rattle.sets.specs.Levels.{level_of, BySize};
 
 use crate::{pieces_of, size, with};
 
@@ -23,7 +22,7 @@ impl Levelled {
     // Each of these pieces at the level of the size of the set that the closure answers of it.
     pub fn by_size<F: Fn(usize) -> u64>(pieces: u64, sets: F) -> Levelled
         requires { (k : ℕ) → k < 64 → member pieces k ≡ true → F.pre sets k }
-        ensures { (key : ℕ → ℕ) → Sizes pieces (F.post sets) key → (l j : ℕ) → member (level_of result l) j ≡ (member pieces j && key j == l) }
+        ensures { BySize (member pieces) (F.post sets) result }
     {
         let mut levels = Levelled::none();
         for k in pieces_of(pieces) {
@@ -47,9 +46,6 @@ impl Levelled {
     pub fn at(&self, level: usize) -> u64
         ensures { result ≡ level_of self.now level }
     {
-        if level > 64 {
-            return 0;
-        }
-        self.sets[level]
+        self.sets.get(level).copied().unwrap_or(0)
     }
 }

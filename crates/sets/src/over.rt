@@ -1,14 +1,14 @@
 // Going over the pieces of a set with a closure: those that pass a test, the largest of their values, and the sum.
-ghost use Rattle.std.specs.Prelude.{◌≡◌, ℕ, ◌<◌, Bool, true};
-ghost use Rattle.sets.specs.Sets.{member, sum_over as sum_of};
-ghost use Rattle.sets.specs.Over.{Answers, Filtered, LargestAnswer};
+ghost use Rattle.std.specs.Prelude.{◌≡◌, ℕ, ◌<◌, true};
+ghost use Rattle.sets.specs.Sets.{member};
+ghost use Rattle.sets.specs.Over.{FilterAnswer, LargestAnswer, SumAnswer};
 
 use crate::{pieces_of, with};
 
 // The pieces of the set that pass the test.
 pub fn filtered<F: Fn(usize) -> bool>(set: u64, test: F) -> u64
     requires { (k : ℕ) → k < 64 → member set k ≡ true → F.pre test k }
-    ensures { (p : ℕ → Bool) → Answers set (F.post test) p → Filtered set p result }
+    ensures { FilterAnswer (member set) (F.post test) result }
 {
     let mut passing = 0;
     for k in pieces_of(set) {
@@ -32,7 +32,7 @@ pub fn largest_over<F: Fn(usize) -> u64>(set: u64, value: F) -> u64
 // The values of the pieces of the set, added up.
 pub fn sum_over<F: Fn(usize) -> u32>(set: u64, value: F) -> u64
     requires { (k : ℕ) → k < 64 → member set k ≡ true → F.pre value k }
-    ensures { (f : ℕ → ℕ) → Answers set (F.post value) f → result ≡ sum_of set f }
+    ensures { SumAnswer (member set) (F.post value) result }
 {
     let mut sum = 0;
     for k in pieces_of(set) {

@@ -4,24 +4,24 @@ ghost use Rattle.sets.specs.Sets.{member, SetOf};
 ghost use Rattle.theory.specs.Tasks.{Leads};
 ghost use Rattle.task.specs.Filing.{Related, edges_of, filed_task};
 
-use crate::stages::Filed;
+use crate::stages::{Filed, Tables};
 use sets::{filtered, first, has, size, sum_over};
 
-// The pieces below n whose sets have piece k.
-fn reversed(sets: &[u64; 64], n: usize, k: usize) -> u64
-    requires { n ≤ 64 }
-    ensures { SetOf n (λ x. member (slice_index sets.now x) k) result }
-{
-    filtered(first(n), |x| has(sets[x], k))
-}
+impl Tables {
+    // What a table has for piece k, and 0 past the task.
+    fn of_piece<T: Copy + Default>(&self, table: &[T; 64], k: usize) -> T
+        ensures on_task { (other : T) → k < self.now.pieces → result ≡ slice_index_or table.now k other }
+        ensures past { self.now.pieces ≤ k → T.is_default result }
+    {
+        table[..self.pieces].get(k).copied().unwrap_or_default()
+    }
 
-// What a table has for piece k of so many, and 0 past them.
-fn of_piece<T: Copy + Default>(table: &[T; 64], pieces: usize, k: usize) -> T
-    requires { pieces ≤ 64 }
-    ensures on_task { (other : T) → k < pieces → result ≡ slice_index_or table.now k other }
-    ensures past { pieces ≤ k → T.is_default result }
-{
-    table[..pieces].get(k).copied().unwrap_or_default()
+    // The pieces of the task whose sets have piece k.
+    fn reversed(&self, sets: &[u64; 64], k: usize) -> u64
+        ensures { SetOf self.now.pieces (λ x. member (slice_index sets.now x) k) result }
+    {
+        filtered(first(self.pieces), |x| has(sets[x], k))
+    }
 }
 
 impl Filed {
@@ -44,14 +44,14 @@ impl Filed {
     pub fn worst(&self, k: usize) -> u32
         ensures { result ≡ (if nat_lt k (filed_task self.now).pieces then (filed_task self.now).worst k else 0) }
     {
-        of_piece(&self.tables.worst, self.tables.pieces, k)
+        self.tables.of_piece(&self.tables.worst, k)
     }
 
     // The pieces from which an edge leads to piece k.
     pub fn predecessors(&self, k: usize) -> u64
         ensures { Related (filed_task self.now) (filed_task self.now).edge k result }
     {
-        of_piece(&self.tables.predecessors, self.tables.pieces, k)
+        self.tables.of_piece(&self.tables.predecessors, k)
     }
 
     // The pieces from which one or more edges lead to piece k.
@@ -59,27 +59,27 @@ impl Filed {
         ensures set { Related (filed_task self.now) (filed_task self.now).ancestor k result }
         ensures leads { (x : ℕ) → (member result x ≡ true) ↔ ∥ Leads (filed_task self.now) x k ∥₁ }
     {
-        of_piece(&self.tables.ancestors, self.tables.pieces, k)
+        self.tables.of_piece(&self.tables.ancestors, k)
     }
 
     // The pieces to which an edge leads from piece k.
     pub fn successors(&self, k: usize) -> u64
         ensures { Related (filed_task self.now) (λ x y. (filed_task self.now).edge y x) k result }
     {
-        reversed(&self.tables.predecessors, self.tables.pieces, k)
+        self.tables.reversed(&self.tables.predecessors, k)
     }
 
     // The pieces to which one or more edges lead from piece k.
     pub fn descendants(&self, k: usize) -> u64
         ensures { Related (filed_task self.now) (λ x y. (filed_task self.now).ancestor y x) k result }
     {
-        reversed(&self.tables.ancestors, self.tables.pieces, k)
+        self.tables.reversed(&self.tables.ancestors, k)
     }
 
     // The pieces whose priority is not after that of piece k.
     pub fn not_after(&self, k: usize) -> u64
         ensures { Related (filed_task self.now) (filed_task self.now).not_after k result }
     {
-        of_piece(&self.tables.not_after, self.tables.pieces, k)
+        self.tables.of_piece(&self.tables.not_after, k)
     }
 }

@@ -1,7 +1,8 @@
 -- The ancestors of w are asked, whose cells with w are entries.
 use Rattle.std.proofs.Common.{◌≡◌, sym, ◌∙◌, rules}
 use Rattle.sets.specs.Sets.{member}
-use Rattle.sets.proofs.Bests.{largest_answered, largest_same}
+use Rattle.sets.proofs.Bests.{largest_same}
+use Rattle.sets.proofs.Answering.{largest_is}
 use Rattle.task.proofs.Filed.{filed_lawful}
 use Rattle.numerator.specs.Cells.{cell, entry}
 use Rattle.numerator.specs.Settings.{task_in}
@@ -17,5 +18,5 @@ returns c =
     let before = c.ancestors.result in
     let are = ancestors_are (filed_lawful c.args.self.now.task) w before c.ancestors.ensures.set in
     largest_same (member before) (λ u. t.ancestor u w) (λ u. entry t m u w) c.largest_over.result (λ u. sym (are u))
-    (largest_answered (member before) _ (λ u. entry t m u w) c.largest_over.result
-    (λ u r h said. let read : r ≡ cell m u w = search rules in read ∙ sym (entry_read t m u w (sym (are u) ∙ h))) c.largest_over.ensures)
+    (largest_is (λ u. entry t m u w) c.largest_over.result c.largest_over.ensures
+    (λ u r h said. let read : r ≡ cell m u w = search rules in read ∙ sym (entry_read t m u w (sym (are u) ∙ h))))
