@@ -8,6 +8,7 @@ use task::stages::{Entering, Linking};
 pub fn alike(pieces: usize, worst: u32) -> Result<Linking, PieceRefusal>
     ensures { AlikeSays pieces worst result }
 {
+    // the loop of `file` again: over an iterator that gives both, the contract would speak of what an iterator gives
     let mut entering = Entering::open();
     for _ in 0..pieces {
         let _ = entering.enter(worst)?;

@@ -1,6 +1,6 @@
 -- Writing the cells of a line, a row or a column, piece by piece of a set, and line after line. Assumes nothing.
 use Rattle.std.proofs.Common.{◌≡◌, ℕ, ◌+◌, Bool, true, false, ◌&&◌, ◌||◌, eqb, ltb, sym, refl, ap, ◌∙◌, ap₂, subst, arith}
-use mathlib.Core.Bool.{and-false}
+use mathlib.Core.Bool.{and-false, and-or_distrib_left}
 use Rattle.std.proofs.lemmas.Bool.{and_parts, eqb-true}
 use Rattle.std.proofs.lemmas.Bool.Decides.{nat_tests}
 use Rattle.sets.specs.Sets.{member, Without}
@@ -8,10 +8,6 @@ use Rattle.sets.proofs.Iterating.{passed, Within, passed_more, passed_all}
 use Rattle.numerator.specs.Cells.{Wrote}
 use Rattle.numerator.specs.declared.table.Table.{Table}
 use Rattle.numerator.proofs.Placing.{wrote_same, wrote_join}
-
-spread : (f p e : Bool) → (f && (p || e)) ≡ ((f && p) || (f && e))
-spread true p e = refl
-spread false p e = refl
 
 -- where a first test passes, the second matters
 pub and_under : (p q r : Bool) → (p ≡ true → q ≡ r) → (p && q) ≡ (p && r)
@@ -43,7 +39,7 @@ module _ (line : ℕ → ℕ → Bool) (pick : ℕ → ℕ → ℕ) (set : ℕ) 
     line_turn rest next k u w value inside here without is cellwise before one =
         wrote_join before one (λ a b h. at_pair (λ x y. value ≡ f x y) u w a b is h)
         (λ a b. ap (λ x. line a b && x) (passed_more set rest next k inside here without (pick a b))
-        ∙ spread (line a b) (passed set rest (pick a b)) (eqb k (pick a b))
+        ∙ and-or_distrib_left (line a b) (passed set rest (pick a b)) (eqb k (pick a b))
         ∙ ap (λ x. gone rest a b || x) (cellwise a b))
 
     pub line_end : {old cur : Table} (rest : ℕ) (q : ℕ → ℕ → Bool) → rest ≡ 0 → ((a b : ℕ) → (line a b && member set (pick a b)) ≡ q a b)

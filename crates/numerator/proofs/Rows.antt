@@ -1,10 +1,10 @@
 -- The table as it is written: first the edges, then for each piece v that is taken the rows of what leads to it. What a step goes
 -- by is not among the cells written. Assumes nothing.
-use Rattle.std.proofs.Common.{◌≡◌, ℕ, ◌≤◌, ◌<◌, Bool, true, false, cond, not, ◌&&◌, ◌||◌, eqb, ◌⊎◌, sym, refl, ap, ◌∙◌, subst, inl, inr, ⊎_elim, arith}
-use mathlib.Core.Bool.{and-false}
+use Rattle.std.proofs.Common.{◌≡◌, ℕ, ◌≤◌, ◌<◌, Bool, true, false, cond, not, ◌&&◌, eqb, ◌⊎◌, sym, refl, ap, ◌∙◌, subst, inl, inr, ⊎_elim, arith}
+use mathlib.Core.Bool.{and-or_distrib_right}
 use Rattle.std.proofs.lemmas.Bool.{both_ways, cases_Bool, and_parts, and_left, and_right, cond-true, cond-false, eqb-true, ne_eqb}
 use Rattle.sets.specs.Sets.{member, Without}
-use Rattle.sets.proofs.Iterating.{passed, Within, passed_more}
+use Rattle.sets.proofs.Iterating.{passed, Within, passed_more, passed_not}
 use Rattle.theory.specs.Tasks.{Task, Lawful}
 use Rattle.theory.specs.Inner.{straight, stepped, Best}
 use Rattle.theory.proofs.Ancestors.{ancestor_one, ancestor_join, ancestor_apart}
@@ -22,31 +22,26 @@ use Rattle.numerator.proofs.Stepping.{entry_read, stepped_same, stepped_stays, c
 same_entry : (t : Task) (old cur : Table) (a b : ℕ) → cell cur a b ≡ cell old a b → entry t cur a b ≡ entry t old a b
 same_entry t old cur a b e = ap (λ x. cond (t.ancestor a b) x 0) e
 
--- nothing to come has been passed
-not_passed : (set rest k : ℕ) → member rest k ≡ true → passed set rest k ≡ false
-not_passed set rest k here = ap (λ b. member set k && not b) here ∙ and-false (member set k)
-
 -- the task of a joint
 law_at : (j : Joint) → Lawful (task_at j)
 law_at j = filed_lawful j.setting.now.task
 
-module _ (j : Joint) {old cur : Table} {p : ℕ → ℕ → Bool} (wrote : Wrote p (through j old) old cur)
-    (off_row : (b : ℕ) → p j.v b ≡ false) (off_column : (a : ℕ) → p a j.v ≡ false) where
+module _ (t : Task) (cores v : ℕ) {old cur : Table} {p : ℕ → ℕ → Bool} (wrote : Wrote p (stepped t cores (entry t old) v) old cur)
+    (off_row : (b : ℕ) → p v b ≡ false) (off_column : (a : ℕ) → p a v ≡ false) where
   -- the entries to v and from v are as they were
-  to_same : (a : ℕ) → entry (task_at j) cur a j.v ≡ entry (task_at j) old a j.v
-  to_same a = same_entry (task_at j) old cur a j.v (unwritten wrote a j.v (off_column a))
+  to_same : (a : ℕ) → entry t cur a v ≡ entry t old a v
+  to_same a = same_entry t old cur a v (unwritten wrote a v (off_column a))
 
-  from_same : (b : ℕ) → entry (task_at j) cur j.v b ≡ entry (task_at j) old j.v b
-  from_same b = same_entry (task_at j) old cur j.v b (unwritten wrote j.v b (off_row b))
+  from_same : (b : ℕ) → entry t cur v b ≡ entry t old v b
+  from_same b = same_entry t old cur v b (unwritten wrote v b (off_row b))
 
-  still_ready : Ready (task_at j) old j.v → Ready (task_at j) cur j.v
+  still_ready : Ready t old v → Ready t cur v
   still_ready ready a ha = (omega (arith, to_same a, (ready a ha).0), omega (arith, from_same a, (ready a ha).1))
 
   -- so a step at a pair that was not written gives the same
-  still_steps : (u w : ℕ) → p u w ≡ false → through j cur u w ≡ through j old u w
+  still_steps : (u w : ℕ) → p u w ≡ false → stepped t cores (entry t cur) v u w ≡ stepped t cores (entry t old) v u w
   still_steps u w none =
-      stepped_same (task_at j) j.setting.now.cores (entry (task_at j) cur) (entry (task_at j) old) j.v u w (to_same u) (from_same w)
-      (same_entry (task_at j) old cur u w (unwritten wrote u w none))
+      stepped_same t cores (entry t cur) (entry t old) v u w (to_same u) (from_same w) (same_entry t old cur u w (unwritten wrote u w none))
 
 -- row u, of which the cells with the pieces passed are written
 module _ (j : Joint) (u : ℕ) (to : (task_at j).ancestor u j.v ≡ true) where
@@ -67,14 +62,14 @@ module _ (j : Joint) (u : ℕ) (to : (task_at j).ancestor u j.v ≡ true) where
     row_to = unwritten wrote u j.v (off_column u)
 
     pub row_ready : Ready (task_at j) old j.v → Ready (task_at j) cur j.v
-    row_ready = still_ready j wrote off_row off_column
+    row_ready = still_ready (task_at j) j.setting.now.cores j.v wrote off_row off_column
 
     -- the next cell, written from what stands there now, is the cell written from what stood there at first
     pub row_turn : {new : Table} (next w value : ℕ) → Within rest j.behind → member rest w ≡ true → Without rest w next → value ≡ through j cur u w
         → Wrote (λ a b. eqb u a && eqb w b) (λ a b. value) cur new → Wrote (λ a b. eqb u a && passed j.behind next b) (through j old) old new
     row_turn next w value inside here without is =
         line_turn (λ a b. eqb u a) (λ a b. b) j.behind rest next w u w value inside here without
-        (is ∙ still_steps j wrote off_row off_column u w (and_right (eqb u u) (passed j.behind rest w) (not_passed j.behind rest w here)))
+        (is ∙ still_steps (task_at j) j.setting.now.cores j.v wrote off_row off_column u w (and_right (eqb u u) (passed j.behind rest w) (passed_not j.behind rest w here)))
         (λ a b. refl) wrote
 
     -- and where no walk leads from v on it stays
@@ -95,7 +90,7 @@ module _ (j : Joint) {old cur : Table} (rest : ℕ) (wrote : Wrote (λ a b. pass
   rows_off_column a = and_right (passed j.before rest a) ((task_at j).ancestor j.v j.v) ((law_at j).acyclic j.v)
 
   pub rows_ready : Ready (task_at j) old j.v → Ready (task_at j) cur j.v
-  rows_ready = still_ready j wrote rows_off_row rows_off_column
+  rows_ready = still_ready (task_at j) j.setting.now.cores j.v wrote rows_off_row rows_off_column
 
   -- the next row, written from what stands there now, is the row written from what stood there at first
   pub rows_turn : {new : Table} (next u : ℕ) → Within rest j.before → member rest u ≡ true → Without rest u next
@@ -104,14 +99,9 @@ module _ (j : Joint) {old cur : Table} (rest : ℕ) (wrote : Wrote (λ a b. pass
       wrote_join wrote row
       (λ a b h. let is = eqb-true u a (and_parts (eqb u a) ((task_at j).ancestor j.v b) h).0 in
       subst (λ x. through j cur x b ≡ through j old x b) is
-      (still_steps j wrote rows_off_row rows_off_column u b (and_left (passed j.before rest u) ((task_at j).ancestor j.v b) (not_passed j.before rest u here))))
+      (still_steps (task_at j) j.setting.now.cores j.v wrote rows_off_row rows_off_column u b (and_left (passed j.before rest u) ((task_at j).ancestor j.v b) (passed_not j.before rest u here))))
       (λ a b. ap (λ x. x && (task_at j).ancestor j.v b) (passed_more j.before rest next u inside here without a)
-      ∙ either (passed j.before rest a) (eqb u a) ((task_at j).ancestor j.v b))
-    where
-      either : (x y z : Bool) → ((x || y) && z) ≡ ((x && z) || (y && z))
-      either true y true = refl
-      either true y false = sym (and-false y)
-      either false y z = refl
+      ∙ and-or_distrib_right (passed j.before rest a) (eqb u a) ((task_at j).ancestor j.v b))
 
 -- all cells written: each entry has made its step
 pub all_stepped : {t : Task} → Lawful t → (cores v : ℕ) (old new : Table)

@@ -1,5 +1,6 @@
 -- The pieces held at work: what runs and what ends, as masks, and what it leaves. Assumes nothing.
-use Rattle.std.proofs.Common.{◌≡◌, ℕ, ◌+◌, ◌-◌, ◌^◌, ◌<◌, Bool, true, false, cond, not, ◌&&◌, ◌||◌, eqb, ltb, List, get_or, sym, refl, ap, ◌∙◌, ap₂}
+use Rattle.std.proofs.Common.{◌≡◌, ℕ, ◌+◌, ◌-◌, ◌^◌, ◌<◌, cond, not, ◌&&◌, ◌||◌, eqb, ltb, List, get_or, sym, refl, ap, ◌∙◌, ap₂}
+use mathlib.Core.Bool.{and-or_distrib_left}
 use lib.Bits.{bit_and, bit_or}
 use Rattle.std.proofs.lemmas.Bool.{and_parts, and_from, or_right, eq-eqb}
 use Rattle.sets.specs.Sets.{member}
@@ -16,10 +17,6 @@ running_is worst ran held ended pieces h e holds k =
     member-and pieces (bit_and held (2 ^ 64 - 1 - ended)) k
     ∙ ap (λ b. member pieces k && b) (member-minus held ended 64 k h e ∙ ap (λ b. b && not (member ended k)) (holds k))
 
-spread : (r e s : Bool) → ((r && e) || (r && s)) ≡ (r && (e || s))
-spread true e s = refl
-spread false e s = refl
-
 module _ (worst ran : List ℕ) (ended pieces early running short : ℕ) (more : List ℕ)
     (run : (k : ℕ) → member running k ≡ runs (platform_from worst ran ended) pieces k)
     (reach : (k : ℕ) → member short k ≡ (member running k && eqb (get_or ran k 0 + 1) (get_or worst k 0)))
@@ -31,19 +28,22 @@ module _ (worst ran : List ℕ) (ended pieces early running short : ℕ) (more :
   answer = bit_or (bit_and running early) short
 
   -- what ends is early or runs its last tick
-  pub ends_also : EndsAlso p pieces early answer
+  ends_also : EndsAlso p pieces early answer
   ends_also k =
       member-or (bit_and running early) short k ∙ ap₂ (λ a b. a || b) (member-and running early k) (reach k)
-      ∙ spread (member running k) (member early k) (eqb (get_or ran k 0 + 1) (get_or worst k 0))
+      ∙ sym (and-or_distrib_left (member running k) (member early k) (eqb (get_or ran k 0 + 1) (get_or worst k 0)))
       ∙ ap (λ b. b && (member early k || eqb (get_or ran k 0 + 1) (get_or worst k 0))) (run k)
 
-  pub held_works : Works p pieces answer (platform_from worst more (bit_or ended answer))
+  held_works : Works p pieces answer (platform_from worst more (bit_or ended answer))
   held_works = record {
     worst = λ k. refl;
     ran = λ k. tick k ∙ ap (λ b. get_or ran k 0 + cond b 1 0) (run k);
     ended = λ k. member-or ended answer k;
     only = λ k h. (and_parts (runs p pieces k) (member early k || eqb (get_or ran k 0 + 1) (get_or worst k 0)) (sym (ends_also k) ∙ h)).0;
   }
+
+  pub held_works_also : Works p pieces answer (platform_from worst more (bit_or ended answer)) × EndsAlso p pieces early answer
+  held_works_also = (held_works, ends_also)
 
   pub held_sound : Sound p → Sound (platform_from worst more (bit_or ended answer))
   held_sound sound = works_sound held_works sound (λ k h last. ends_also k ∙ and_from (runs p pieces k) (member early k || eqb (get_or ran k 0 + 1) (get_or worst k 0)) h

@@ -29,6 +29,7 @@ impl Priority for Plain {
 
     ghost transitive = { Prim.search rules };
 
+    // By its one number: the derived order says it in no fewer words.
     fn not_after(&self, other: &Plain) -> bool {
         self.0 <= other.0
     }

@@ -72,12 +72,13 @@ fn drawn_banded(draws: &mut Draws) -> Banded
 fn shuffle(draws: &mut Draws, order: &mut [usize])
     ensures { IsPermutation order.old order.new }
 {
+    // by the number, since two places trade
     for k in 0..order.len() {
         order.swap(k, draws.below(k + 1));
     }
 }
 
-// A task whose edges and priorities are being drawn.
+// A task whose edges and priorities are being drawn. That its pieces stay is said by each method: no type says that a field stays.
 #[derive(Drop)]
 struct Drawing<'d> {
     draws: &'d mut Draws,
@@ -89,7 +90,9 @@ struct Drawing<'d> {
 
 impl Drawing<'_> {
     // An edge, or none: by lot.
-    fn edge(&mut self, percent: usize, before: usize, after: usize) -> Result<(), EdgeRefusal> {
+    fn edge(&mut self, percent: usize, before: usize, after: usize) -> Result<(), EdgeRefusal>
+        ensures { self.new.pieces ≡ self.old.pieces }
+    {
         if !self.draws.chance(percent) {
             return Ok(());
         }
@@ -98,7 +101,9 @@ impl Drawing<'_> {
 
     // Edges by lot, each from a piece to one behind it in an order by lot, so that they close no circle and the numbers of the
     // pieces say nothing of who waits for whom.
-    fn edges(&mut self) -> Result<(), EdgeRefusal> {
+    fn edges(&mut self) -> Result<(), EdgeRefusal>
+        ensures { self.new.pieces ≡ self.old.pieces }
+    {
         let mut order = [0, 1, 2, 3, 4, 5, 6, 7, 8];
         shuffle(self.draws, &mut order[..self.pieces]);
         let order = &order[..self.pieces];
@@ -120,6 +125,7 @@ impl Drawing<'_> {
     ) -> Result<(), RankingRefusal>
         requires room { self.old.pieces ≤ length room.old }
         requires drawn { F.IsAlwaysCallable drawn }
+        ensures { self.new.pieces ≡ self.old.pieces }
     {
         let priorities = &mut room[..self.pieces];
         for p in priorities.iter_mut() {
@@ -129,7 +135,9 @@ impl Drawing<'_> {
     }
 
     // No priorities, plain ones or banded ones.
-    fn ranking(&mut self) -> Result<(), RankingRefusal> {
+    fn ranking(&mut self) -> Result<(), RankingRefusal>
+        ensures { self.new.pieces ≡ self.old.pieces }
+    {
         match RANKINGS[self.draws.below(5)] {
             Ranking::None => Ok(()),
             Ranking::Plain => self.rank(&mut [Plain(0); 9], drawn_plain),

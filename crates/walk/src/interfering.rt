@@ -1,5 +1,6 @@
 // Who interferes with a piece, straight from what the task says of two pieces. `numerator` has the same two functions from sets; they
-// are written again here so that the walk shares nothing with what it is held against.
+// are written again here so that the walk shares nothing with what it is held against but the questions of a filed task, and
+// `has` and `with` of `sets`.
 ghost use Rattle.std.specs.Prelude.{◌≡◌, ◌≤◌, ◌&&◌, if◌then◌else◌, nat_lt};
 ghost use Rattle.sets.specs.Sets.{member, SetOf};
 ghost use Rattle.theory.specs.Paths.{interferes as interferes_at, volume_of};

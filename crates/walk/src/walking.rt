@@ -107,6 +107,7 @@ impl Walked {
             self.take_in(path);
             return;
         }
+        // number by number: the iterator over a set is used by what the walk is held against
         for v in 0..path.task.pieces() {
             if has(next, v) {
                 self.walk_on(path.onward(v));

@@ -63,6 +63,7 @@ impl<'s> Joint<'s> {
         requires ready { Ready (task_at self.now) table.old self.now.v }
         ensures { RowThrough self.now u table.old table.new }
     {
+        // 0 says that there is no walk: a walk's numerator is never 0
         let to = table.get(u, self.v);
         if to == 0 {
             return;

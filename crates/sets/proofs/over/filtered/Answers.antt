@@ -12,6 +12,6 @@ loop-k-preserved g c =
     let k = c.in-Some.k in
     let inside = c.loop-k.invariant.0 in (
       within_more set rest next k inside taken.1.0 taken.2,
-      filter_more (passed set rest) (passed set next) k (passed_more set rest next k inside taken.1.0 taken.2) (passed_not set rest next k inside taken.1.0 taken.2)
+      filter_more (passed set rest) (passed set next) k (passed_more set rest next k inside taken.1.0 taken.2) (passed_not set rest k taken.1.0)
           (goal.F-post g c.args.test) c.loop-k.passing c.with-passing.result c.test.result c.loop-k.invariant.1 (c.with-passing.ensures.added taken.0) c.test.ensures,
     )

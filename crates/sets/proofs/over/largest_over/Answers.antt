@@ -12,6 +12,6 @@ loop-k-preserved g c =
     let k = c.in-Some.k in
     let inside = c.loop-k.invariant.0 in (
       within_more set rest next k inside taken.1.0 taken.2,
-      largest_more (passed set rest) (passed set next) k (passed_more set rest next k inside taken.1.0 taken.2) (passed_not set rest next k inside taken.1.0 taken.2)
+      largest_more (passed set rest) (passed set next) k (passed_more set rest next k inside taken.1.0 taken.2) (passed_not set rest k taken.1.0)
           (goal.F-post g c.args.value) c.loop-k.largest c.value.result c.max-largest.result c.loop-k.invariant.1 c.value.ensures c.max-largest.ensures,
     )

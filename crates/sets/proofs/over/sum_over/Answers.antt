@@ -20,6 +20,6 @@ loop-k-preserved g c =
     let inside = c.loop-k.invariant.0 in (
       within_more set rest next k inside taken.1.0 taken.2,
       omega (arith, c.loop-k.invariant.1, size_without rest next k taken.0 taken.1.0 taken.2),
-      sum_more (passed set rest) (passed set next) k (passed_more set rest next k inside taken.1.0 taken.2) (passed_not set rest next k inside taken.1.0 taken.2)
+      sum_more (passed set rest) (passed set next) k (passed_more set rest next k inside taken.1.0 taken.2) (passed_not set rest k taken.1.0)
           (goal.F-post g c.args.value) c.loop-k.sum c.value.result (c.loop-k.sum + c.value.result) taken.0 c.loop-k.invariant.2 c.value.ensures refl,
     )

@@ -1,4 +1,4 @@
--- The scratch has the largest numerators of walks through the pieces of smaller rank.
+-- The table has the largest numerators of walks through the pieces of smaller rank.
 use Rattle.theory.specs.Inner.{Best}
 use Rattle.numerator.specs.Cells.{entry}
 use Rattle.numerator.specs.Settings.{task_in, Ahead}

@@ -1,4 +1,4 @@
--- The scratch has the largest numerators of walks through the pieces taken.
+-- The table has the largest numerators of walks through the pieces taken.
 use Rattle.sets.proofs.Iterating.{Within}
 use Rattle.theory.specs.Inner.{Best}
 use Rattle.numerator.specs.Cells.{entry}

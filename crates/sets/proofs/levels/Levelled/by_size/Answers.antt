@@ -14,7 +14,7 @@ loop-k-preserved g c =
     let k = c.in-Some.k in
     let inside = c.loop-k.invariant.0 in (
       within_more set rest next k inside taken.1.0 taken.2,
-      size_more (passed set rest) (passed set next) k (passed_more set rest next k inside taken.1.0 taken.2) (passed_not set rest next k inside taken.1.0 taken.2)
+      size_more (passed set rest) (passed set next) k (passed_more set rest next k inside taken.1.0 taken.2) (passed_not set rest k taken.1.0)
           (goal.F-post g c.args.sets) c.sets.result c.size.result c.loop-k.levels c.put.new.self c.loop-k.invariant.1 c.sets.ensures c.size.ensures
           (c.put.ensures.there (omega (arith, size_few c.sets.result, c.size.ensures)) taken.0),
     )
