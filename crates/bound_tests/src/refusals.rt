@@ -6,7 +6,7 @@ use example::worked::worked_example;
 use std::test::Fail;
 use task::stages::Filed;
 
-// The number that a bound in so much scratch is refused with. A refused call that writes to the scratch fails the test.
+// The number that a bound in so much scratch is refused with: numbers are what is promised. A refused call that writes to the scratch fails the test.
 fn refused(task: &Filed, cores: u32, room: usize) -> Result<Option<u8>, Fail> {
     let mut scratch = [7; SCRATCH];
     let scratch = scratch.get_mut(..room).ok_or("there is less scratch")?;

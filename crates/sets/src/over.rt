@@ -1,4 +1,5 @@
-// Going over the pieces of a set with a closure: those that pass a test, the largest of their values, and the sum.
+// Going over the pieces of a set with a closure: those that pass a test, the largest of their values, and the sum. Loops, since of
+// the library's chains it stays open here that the closure may be called of each piece, that a sum fits, and what they answer.
 ghost use Rattle.std.specs.Prelude.{◌≡◌, ℕ, ◌<◌, true};
 ghost use Rattle.sets.specs.Sets.{member};
 ghost use Rattle.sets.specs.Over.{FilterAnswer, LargestAnswer, SumAnswer};

@@ -32,6 +32,7 @@ fn the_worked_example_is_filed(rt: HostRuntime) -> Result<(), Fail> {
 #[test]
 fn edges_are_refused_in_order(rt: HostRuntime) -> Result<(), Fail> {
     let mut linking = alike(6, 1)?;
+    // refusals by their numbers, since those are what is promised
     let edges = [
         // the worked example's edges, and the three that it refuses
         (0, 4, None),
