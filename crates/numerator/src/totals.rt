@@ -1,4 +1,5 @@
-// The worst times of a set of pieces, added up.
+// The worst times of a set of pieces, added up. Both promise that the sum is at most 64 × 65,535, since the one has it from the
+// other and promises it to everyone.
 ghost use Rattle.std.specs.Prelude.{◌≡◌, ◌≤◌};
 ghost use Rattle.sets.specs.Sets.{member};
 ghost use Rattle.theory.specs.Paths.{volume_of, volume as volume_in};

@@ -41,7 +41,8 @@ fn not_after_set<P: Priority>(priorities: &[P], k: usize) -> u64
     set
 }
 
-// For each piece the pieces whose priorities are not after its own, by an index likewise.
+// For each piece the pieces whose priorities are not after its own, by an index likewise. That there are at most 64 is asked twice,
+// since the slice is the caller's and no type of ours holds it.
 fn ranking<P: Priority>(priorities: &[P]) -> [u64; 64]
     requires { length priorities.now ≤ 64 }
     ensures sets { (p : P) → Columns (length priorities.now) (λ x y. P.not_after (slice_index_or priorities.now x p) (slice_index_or priorities.now y p)) (length priorities.now) result }
