@@ -12,7 +12,7 @@ overflow_add-lengths c =
       arith,
       level_fits (filed_lawful c.args.task.now) c.args.levels.now c.requires.sorted c.args.level c.at-set.result c.at-set.ensures
           c.loop-v.v-iterator.rest c.next.new.self.rest c.in-Some.v c.loop-v.invariant.0 taken.1.0 taken.2 c.loop-v.lengths c.loop-v.invariant.1
-          c.successors.result c.longest_of.result c.worst.result c.longest_of.ensures c.worst.ensures,
+          c.successors.result c.longest_of.result c.worst.result c.longest_of.ensures c.worst.ensures.told,
     )
 
 pub loop-v-preserved : goal.loop-v-preserved
@@ -23,5 +23,5 @@ loop-v-preserved c =
       within_more c.at-set.result rest next c.in-Some.v c.loop-v.invariant.0 taken.1.0 taken.2,
       level_turn (filed_lawful c.args.task.now) c.args.levels.now c.requires.sorted c.args.level c.at-set.result c.at-set.ensures
           rest next c.in-Some.v c.loop-v.invariant.0 taken.1.0 taken.2 c.loop-v.lengths c.loop-v.invariant.1
-          c.successors.result c.longest_of.result c.worst.result c.longest_of.ensures c.worst.ensures (omega arith) c.successors.ensures,
+          c.successors.result c.longest_of.result c.worst.result c.longest_of.ensures c.worst.ensures.told (omega arith) c.successors.ensures,
     )

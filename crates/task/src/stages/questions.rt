@@ -42,7 +42,8 @@ impl Filed {
 
     // The worst time of piece k, and 0 past the task.
     pub fn worst(&self, k: usize) -> u32
-        ensures { result ≡ (if nat_lt k (filed_task self.now).pieces then (filed_task self.now).worst k else 0) }
+        ensures told { result ≡ (if nat_lt k (filed_task self.now).pieces then (filed_task self.now).worst k else 0) }
+        ensures small { result ≤ 65535 }
     {
         self.tables.of_piece(&self.tables.worst, k)
     }

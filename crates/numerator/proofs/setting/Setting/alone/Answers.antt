@@ -11,7 +11,7 @@ returns c =
     let s = c.args.self.now in
     let t = task_in s in
     let v = c.args.v in
-    let product = ap (λ (n : ℕ). s.cores * n) (worst_is s.task v c.worst.result c.requires c.worst.ensures) in
+    let product = ap (λ (n : ℕ). s.cores * n) (worst_is s.task v c.worst.result c.requires c.worst.ensures.told) in
     record {
       value = omega (arith, c.work.ensures.value, volume_alone t s.interference s.tabled v c.requires);
       small = omega (arith, c.work.ensures.small, product_small (filed_lawful s.task) s.cores v s.most c.requires);

@@ -17,7 +17,7 @@ returns c =
     let w = c.args.w in
     let edge : t.edge u w ≡ true = sym (c.has.ensures ∙ predecessors_are law w c.predecessors.result c.predecessors.ensures u) ∙ c.if-not-has.false in
     let on = law.ends u w edge in
-    let first = ap (λ (n : ℕ). s.cores * n) (worst_is s.task u c.worst.result on.0 c.worst.ensures) in
-    let second = ap (λ (n : ℕ). s.cores * n) (worst_is s.task w c.worst-2.result on.1 c.worst-2.ensures) in
+    let first = ap (λ (n : ℕ). s.cores * n) (worst_is s.task u c.worst.result on.0 c.worst.ensures.told) in
+    let second = ap (λ (n : ℕ). s.cores * n) (worst_is s.task w c.worst-2.result on.1 c.worst-2.ensures.told) in
     omega (arith, c.work.ensures.value, volume_straight t s.interference s.tabled u w on.0 on.1)
     ∙ sym (cond-true (t.edge u w) (weight t s.cores u [] w) 0 edge)

@@ -2,13 +2,9 @@
 use Rattle.std.proofs.Common.{arith}
 use Rattle.theory.proofs.Ancestors.{below_few}
 use Rattle.task.proofs.Filed.{filed_lawful}
-use Rattle.walk.proofs.Times.{worst_small}
 use Rattle.walk.proofs.walking.Path.starting.Goals as goal
 
 pub invariant_of-result : goal.invariant_of-result
 invariant_of-result c =
     let law = filed_lawful c.args.task.now in
-    record { room = omega (arith, worst_small c.args.task.now c.args.v c.worst.result c.worst.ensures, below_few law c.args.v c.requires, law.few) }
-
-pub returns-clause-length : goal.returns-clause-length
-returns-clause-length c = omega (arith, worst_small c.args.task.now c.args.v c.worst.result c.worst.ensures)
+    record { room = omega (arith, c.worst.ensures.small, below_few law c.args.v c.requires, law.few) }

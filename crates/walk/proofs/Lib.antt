@@ -1,2 +1,0 @@
--- Lemmas on worst times.
-pub mod Times
