@@ -1,13 +1,12 @@
 -- Pieces that are asked one after the other: what one more of them adds, and what is known where only one thing can be answered of
 -- each. Assumes nothing.
-use Rattle.std.proofs.Common.{◌≡◌, ℕ, ◌+◌, ◌<◌, ◌≤◌, max, Bool, true, false, cond, ◌&&◌, ◌||◌, eqb, ltb, ◌⊎◌, sym, refl, ap, ◌∙◌, subst, inl, inr, ⊎_elim, arith}
+use Rattle.std.proofs.Common.{◌≡◌, ℕ, ◌+◌, ◌<◌, ◌≤◌, max, Bool, true, false, cond, ◌&&◌, ◌||◌, eqb, ◌⊎◌, sym, refl, ap, ◌∙◌, subst, inl, inr, ⊎_elim, arith}
 use mathlib.Core.Bool.{and-true, and-false, or-false}
 use Rattle.std.proofs.lemmas.Bool.{both_ways, cases_Bool, cases_lt, or_left, or_right, or_parts, eqb-true, eq-eqb}
-use Rattle.sets.specs.Sets.{member, sum, size_of, sum_over, LargestWhere, SetOf}
-use Rattle.sets.specs.Over.{sum_where, FilterAnswer, LargestAnswer, SumAnswer}
+use Rattle.sets.specs.Sets.{member, sum, size_of, sum_over, LargestWhere}
+use Rattle.sets.specs.Over.{sum_where, LargestAnswer, SumAnswer}
 use Rattle.sets.specs.Levels.{level_of, BySize}
 use Rattle.sets.specs.declared.levels.Levelled.{Levelled}
-use Rattle.sets.proofs.Members.{first_below}
 use Rattle.sets.proofs.Sums.{sum_none as sum_zero, sum_same, sum_add, sum_at}
 
 split : (p e : Bool) (x v : ℕ) → (e ≡ true → p ≡ false) → cond (p || e) (cond e v x) 0 ≡ cond p x 0 + cond e v 0
@@ -39,18 +38,6 @@ module _ (p q : ℕ → Bool) (j : ℕ) (one : (k : ℕ) → q k ≡ (p k || eqb
 
   same : eqb j j ≡ true
   same = eq-eqb j j refl
-
-  pub filter_more : (answer : ℕ → Bool → Type 0) (r s : ℕ) (a : Bool) → FilterAnswer p answer r → ((k : ℕ) → member s k ≡ (member r k || (eqb j k && a)))
-      → answer j a → FilterAnswer q answer s
-  filter_more answer r s a old added said = record {
-    asked = either (λ k. answer k (member s k))
-        (subst (answer j) (sym (added j ∙ ap (λ b. b || (eqb j j && a)) (old.others j new) ∙ ap (λ b. b && a) same)) said)
-        (λ k h e. subst (answer k) (sym (kept k e)) (old.asked k h));
-    others = λ k h. kept k (neither k h).1 ∙ old.others k (neither k h).0;
-  }
-    where
-      kept : (k : ℕ) → eqb j k ≡ false → member s k ≡ member r k
-      kept k e = added k ∙ ap (λ b. member r k || (b && a)) e ∙ or-false (member r k)
 
   pub largest_more : (answer : ℕ → ℕ → Type 0) (n r m : ℕ) → LargestAnswer p answer n → answer j r → m ≡ max r n → LargestAnswer q answer m
   largest_more answer n r m old said e = record {
@@ -99,16 +86,6 @@ module _ (p q : ℕ → Bool) (j : ℕ) (one : (k : ℕ) → q k ≡ (p k || eqb
           ∙ ap (λ n. eqb n l) is
 
 -- ---- where only one thing can be answered of each piece
-
-pub filter_is : {answer : ℕ → Bool → Type 0} (set r : ℕ) (p : ℕ → Bool) → FilterAnswer (member set) answer r
-    → ((k : ℕ) (b : Bool) → member set k ≡ true → answer k b → b ≡ p k) → (k : ℕ) → member r k ≡ (member set k && p k)
-filter_is set r p f only k =
-    ⊎_elim (λ e. only k (member r k) e (f.asked k e) ∙ ap (λ b. b && p k) (sym e)) (λ e. f.others k e ∙ ap (λ b. b && p k) (sym e)) (cases_Bool (member set k))
-
--- of the pieces below n
-pub filter_first : {answer : ℕ → Bool → Type 0} (n set r : ℕ) (p : ℕ → Bool) → n ≤ 64 → SetOf 64 (λ k. ltb k n) set → FilterAnswer (member set) answer r
-    → ((k : ℕ) (b : Bool) → member set k ≡ true → answer k b → b ≡ p k) → SetOf n p r
-filter_first n set r p few first f only k = filter_is set r p f only k ∙ ap (λ b. b && p k) (first_below n set few first k)
 
 pub largest_is : {p : ℕ → Bool} {answer : ℕ → ℕ → Type 0} (f : ℕ → ℕ) (n : ℕ) → LargestAnswer p answer n
     → ((k r : ℕ) → p k ≡ true → answer k r → r ≡ f k) → LargestWhere p f n
