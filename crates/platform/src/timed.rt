@@ -14,8 +14,8 @@ pub struct TimedRow {
     pub time: u32,
 }
 
-// Pieces with their true times, 0 for a piece that is not held: side by side with what is held, as worst times are. No true time is above the worst, none has run past it,
-// and the pieces that have ended are those that have run it.
+// Pieces with their true times, 0 for a piece that is not held: side by side with what is held, as worst times are. No true time
+// is above the worst, none has run past it, and the pieces that have ended are those that have run it.
 #[derive(Drop)]
 pub struct TimedPlatform {
     held: Holding,

@@ -4,7 +4,7 @@ use Rattle.std.proofs.Common.{◌≡◌, ℕ, ◌+◌, ◌<◌, ◌≤◌, max, 
 use mathlib.Core.Bool.{and-true, and-false, or-false}
 use Rattle.std.proofs.lemmas.Bool.{both_ways, cases_Bool, cases_lt, or_left, or_right, or_parts, eqb-true, eq-eqb}
 use Rattle.sets.specs.Sets.{member, sum, size_of, sum_over, LargestWhere}
-use Rattle.sets.specs.Over.{sum_where, LargestAnswer, SumAnswer}
+use Rattle.sets.specs.Over.{LargestAnswer, SumAnswer}
 use Rattle.sets.specs.Levels.{level_of, BySize}
 use Rattle.sets.specs.declared.levels.Levelled.{Levelled}
 use Rattle.sets.proofs.Sums.{sum_none as sum_zero, sum_same, sum_add, sum_at}
@@ -15,13 +15,32 @@ split true false x v h = omega arith
 split false true x v h = omega arith
 split false false x v h = omega arith
 
+-- the sum of f over the pieces that pass the test; shut, so that no goal spells out 64 terms
+unfoldable pub sum_where : (ℕ → Bool) → (ℕ → ℕ) → ℕ
+sum_where p f = sum 64 (λ k. cond (p k) (f k) 0)
+
+-- so far n is the sum of the numbers that were answered, one of each piece that passes the test
+pub record SumSoFar (p : ℕ → Bool) (answer : ℕ → ℕ → Type 0) (n : ℕ) : Type 0 where
+  pub value : ℕ → ℕ
+  pub asked : (k : ℕ) → p k ≡ true → answer k (value k)
+  pub adds : n ≡ sum_where p value
+
 -- at first no piece has been asked
-pub sum_none : (p : ℕ → Bool) (answer : ℕ → ℕ → Type 0) → ((k : ℕ) → p k ≡ false) → SumAnswer p answer 0
+pub sum_none : (p : ℕ → Bool) (answer : ℕ → ℕ → Type 0) → ((k : ℕ) → p k ≡ false) → SumSoFar p answer 0
 unfolding sum_where
 sum_none p answer none = record {
   value = λ _. 0;
   asked = λ k h. absurd (both_ways (p k) (none k) h);
   adds = sym (sum_zero 64 (λ k. cond (p k) 0 0) (λ k _. ap (λ b. cond b 0 0) (none k)));
+}
+
+-- at last all of the set have
+pub sum_all : (p : ℕ → Bool) (set : ℕ) (answer : ℕ → ℕ → Type 0) (n : ℕ) → ((k : ℕ) → p k ≡ member set k) → SumSoFar p answer n → SumAnswer set answer n
+unfolding sum_where sum_over
+sum_all p set answer n same s = record {
+  value = s.value;
+  asked = λ k h. s.asked k (same k ∙ h);
+  adds = s.adds ∙ sum_same 64 (λ k. cond (p k) (s.value k) 0) (λ k. cond (member set k) (s.value k) 0) (λ k _. ap (λ b. cond b (s.value k) 0) (same k));
 }
 
 -- piece j is asked, which was not before
@@ -53,7 +72,7 @@ module _ (p q : ℕ → Bool) (j : ℕ) (one : (k : ℕ) → q k ≡ (p k || eqb
           let is : n ≡ m = omega (arith, e, more) in
           ⊎_elim (λ z. inl (omega (arith, is, z))) (λ w. inr (w.0, one w.0 ∙ or_left (p w.0) (eqb j w.0) w.1, subst (answer w.0) is w.2)) old.reached
 
-  pub sum_more : (answer : ℕ → ℕ → Type 0) (n r m : ℕ) → j < 64 → SumAnswer p answer n → answer j r → m ≡ n + r → SumAnswer q answer m
+  pub sum_more : (answer : ℕ → ℕ → Type 0) (n r m : ℕ) → j < 64 → SumSoFar p answer n → answer j r → m ≡ n + r → SumSoFar q answer m
   unfolding sum_where
   sum_more answer n r m lt old said e = record {
     value = λ k. cond (eqb j k) r (old.value k);
@@ -98,9 +117,9 @@ once : (b : Bool) (x y : ℕ) → (b ≡ true → x ≡ y) → cond b x 0 ≡ co
 once true x y h = h refl
 once false x y h = refl
 
-pub sum_is : {answer : ℕ → ℕ → Type 0} (set n : ℕ) (f : ℕ → ℕ) → SumAnswer (member set) answer n
+pub sum_is : {answer : ℕ → ℕ → Type 0} (set n : ℕ) (f : ℕ → ℕ) → SumAnswer set answer n
     → ((k r : ℕ) → member set k ≡ true → answer k r → r ≡ f k) → n ≡ sum_over set f
-unfolding sum_where sum_over
+unfolding sum_over
 sum_is set n f s only =
     s.adds ∙ sum_same 64 (λ k. cond (member set k) (s.value k) 0) (λ k. cond (member set k) (f k) 0)
     (λ k _. once (member set k) (s.value k) (f k) (λ h. only k (s.value k) h (s.asked k h)))

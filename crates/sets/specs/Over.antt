@@ -1,10 +1,7 @@
--- What comes of asking the pieces that pass a test one by one, where answer k r says that r may be answered of piece k. Assumes nothing.
-use Rattle.std.specs.Prelude.{◌≡◌, ℕ, ◌≤◌, Bool, true, false, cond, ◌⊎◌}
-use Rattle.sets.specs.Sets.{member, sum}
-
--- the sum of f over the pieces that pass the test; shut, so that no goal spells out 64 terms
-unfoldable pub sum_where : (ℕ → Bool) → (ℕ → ℕ) → ℕ
-sum_where p f = sum 64 (λ k. cond (p k) (f k) 0)
+-- What comes of asking pieces one by one, those that pass a test or those of a set, where answer k r says that r may be answered of
+-- piece k. Assumes nothing.
+use Rattle.std.specs.Prelude.{◌≡◌, ℕ, ◌≤◌, Bool, true, false, ◌⊎◌}
+use Rattle.sets.specs.Sets.{member, sum_over}
 
 module _ (p : ℕ → Bool) where
   -- r has each of the pieces as is answered of it, and no other piece
@@ -17,8 +14,8 @@ module _ (p : ℕ → Bool) where
     pub bounds : (k : ℕ) → p k ≡ true → (r : ℕ) × answer k r × (r ≤ n)
     pub reached : (n ≡ 0) ⊎ ((k : ℕ) × (p k ≡ true) × answer k n)
 
-  -- n is the sum of the numbers that are answered, one of each piece
-  pub record SumAnswer (answer : ℕ → ℕ → Type 0) (n : ℕ) : Type 0 where
-    pub value : ℕ → ℕ
-    pub asked : (k : ℕ) → p k ≡ true → answer k (value k)
-    pub adds : n ≡ sum_where p value
+-- n is the sum of the numbers that are answered, one of each piece of the set
+pub record SumAnswer (set : ℕ) (answer : ℕ → ℕ → Type 0) (n : ℕ) : Type 0 where
+  pub value : ℕ → ℕ
+  pub asked : (k : ℕ) → member set k ≡ true → answer k (value k)
+  pub adds : n ≡ sum_over set value

@@ -33,7 +33,7 @@ pub fn largest_over<F: Fn(usize) -> u64>(set: u64, value: F) -> u64
 // The values of the pieces of the set, added up.
 pub fn sum_over<F: Fn(usize) -> u32>(set: u64, value: F) -> u64
     requires { (k : ℕ) → k < 64 → member set k ≡ true → F.pre value k }
-    ensures { SumAnswer (member set) (F.post value) result }
+    ensures { SumAnswer set (F.post value) result }
 {
     let mut sum = 0;
     for k in pieces_of(set) {

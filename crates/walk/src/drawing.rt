@@ -39,7 +39,7 @@ fn drawn_worst(draws: &mut Draws) -> u32
     1 + draws.below(9) as u32
 }
 
-// So many pieces.
+// So many pieces. A loop of its own beside that of `example`'s lists, since no list holds what is drawn.
 fn drawn_pieces(draws: &mut Draws, n: usize) -> Result<Entering, PieceRefusal>
     ensures { IfOk result (λ e. length (entered e) ≡ n) }
 {
