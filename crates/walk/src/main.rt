@@ -21,8 +21,9 @@ fn main(rt: HostRuntime) -> io::Result<()> {
     let mut comparison = Comparison::new(SEED);
     let compared = comparison.compare_all(TASKS);
     let tally = comparison.tally();
+    print!(rt; "{tally}: ")?;
     match compared {
-        Ok(()) => println!(rt; "{tally}: no difference"),
-        Err(stop) => println!(rt; "{tally}: task {} {stop}", tally.tasks),
+        Ok(()) => println!(rt; "no difference"),
+        Err(stop) => println!(rt; "task {} {stop}", tally.tasks),
     }
 }

@@ -1,5 +1,5 @@
 // A walk over every complete path, one after the other.
-ghost use Rattle.std.specs.Prelude.{◌≡◌, ◌+◌, ◌-◌, ◌*◌, ◌<◌, ◌≤◌, ◌⊎◌, true, min, max, replicate, slice_index};
+ghost use Rattle.std.specs.Prelude.{◌≡◌, ℕ, ◌+◌, ◌-◌, ◌*◌, ◌<◌, ◌≤◌, ◌⊎◌, true, false, ◌↔◌, min, max, replicate, slice_index};
 ghost use Rattle.theory.specs.Tasks.{below};
 ghost use Rattle.task.specs.Filing.{filed_task};
 
@@ -48,6 +48,19 @@ impl<'t> Path<'t> {
             length: self.length + u64::from(self.task.worst(v)),
             interfering: self.interfering | interfering(self.task, v),
         }
+    }
+
+    // Whether its last piece is nobody's predecessor. Asked of predecessors, as all of the walk is: the chains that it is held
+    // against ask for successors.
+    fn is_complete(&self) -> bool
+        ensures { let t = filed_task self.now.task.now in (result ≡ true) ↔ ((v : ℕ) → v < t.pieces → t.edge self.now.last v ≡ false) }
+    {
+        for v in 0..self.task.pieces() {
+            if has(self.task.predecessors(v), self.last) {
+                return false;
+            }
+        }
+        true
     }
 }
 
@@ -102,14 +115,13 @@ impl Walked {
 
     // Walks on from where the path has come to, along every edge. It ends since along an edge fewer pieces lie behind.
     fn walk_on(&mut self, path: Path) {
-        let next = path.task.successors(path.last);
-        if next == 0 {
+        if path.is_complete() {
             self.take_in(path);
             return;
         }
         // number by number: the iterator over a set is used by what the walk is held against
         for v in 0..path.task.pieces() {
-            if has(next, v) {
+            if has(path.task.predecessors(v), path.last) {
                 self.walk_on(path.onward(v));
             }
         }
