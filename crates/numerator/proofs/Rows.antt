@@ -26,22 +26,40 @@ same_entry t old cur a b e = ap (λ x. cond (t.ancestor a b) x 0) e
 law_at : (j : Joint) → Lawful (task_at j)
 law_at j = filed_lawful j.setting.now.task
 
-module _ (t : Task) (cores v : ℕ) {old cur : Table} {p : ℕ → ℕ → Bool} (wrote : Wrote p (stepped t cores (entry t old) v) old cur)
+-- the entries of cells that are read in any way: `entry` reads those of a table
+abbrev pub held : Task → (ℕ → ℕ → ℕ) → ℕ → ℕ → ℕ
+held t cells u w = cond (t.ancestor u w) (cells u w) 0
+
+-- of the pairs that count, those that do not pass the test hold what they held, and neither row v nor column v passes it
+module _ (t : Task) (cores v : ℕ) {old cur : ℕ → ℕ → ℕ} {p : ℕ → ℕ → Bool} (On : ℕ → Type 0) (here : On v)
+    (kept : (a b : ℕ) → On a → On b → p a b ≡ false → cur a b ≡ old a b)
     (off_row : (b : ℕ) → p v b ≡ false) (off_column : (a : ℕ) → p a v ≡ false) where
   -- the entries to v and from v are as they were
-  to_same : (a : ℕ) → entry t cur a v ≡ entry t old a v
-  to_same a = same_entry t old cur a v (unwritten wrote a v (off_column a))
+  to_same : (a : ℕ) → On a → held t cur a v ≡ held t old a v
+  to_same a on = ap (λ x. cond (t.ancestor a v) x 0) (kept a v on here (off_column a))
 
-  from_same : (b : ℕ) → entry t cur v b ≡ entry t old v b
-  from_same b = same_entry t old cur v b (unwritten wrote v b (off_row b))
-
-  still_ready : Ready t old v → Ready t cur v
-  still_ready ready a ha = (omega (arith, to_same a, (ready a ha).0), omega (arith, from_same a, (ready a ha).1))
+  from_same : (b : ℕ) → On b → held t cur v b ≡ held t old v b
+  from_same b on = ap (λ x. cond (t.ancestor v b) x 0) (kept v b here on (off_row b))
 
   -- so a step at a pair that was not written gives the same
-  still_steps : (u w : ℕ) → p u w ≡ false → stepped t cores (entry t cur) v u w ≡ stepped t cores (entry t old) v u w
-  still_steps u w none =
-      stepped_same t cores (entry t cur) (entry t old) v u w (to_same u) (from_same w) (same_entry t old cur u w (unwritten wrote u w none))
+  still_steps : (u w : ℕ) → On u → On w → p u w ≡ false → stepped t cores (held t cur) v u w ≡ stepped t cores (held t old) v u w
+  still_steps u w on_u on_w none =
+      stepped_same t cores (held t cur) (held t old) v u w (to_same u on_u) (from_same w on_w) (ap (λ x. cond (t.ancestor u w) x 0) (kept u w on_u on_w none))
+
+-- of a table every pair counts, since past its end there is 0 before and after
+module _ (t : Task) (cores v : ℕ) {old cur : Table} {p : ℕ → ℕ → Bool} {f : ℕ → ℕ → ℕ} (wrote : Wrote p f old cur)
+    (off_row : (b : ℕ) → p v b ≡ false) (off_column : (a : ℕ) → p a v ≡ false) where
+  kept : (a b : ℕ) → Unit {0} → Unit {0} → p a b ≡ false → cell cur a b ≡ cell old a b
+  kept a b _ _ none = unwritten wrote a b none
+
+  still_ready : Ready t old v → Ready t cur v
+  still_ready ready a ha = (
+    omega (arith, to_same t cores v (λ _. Unit {0}) tt kept off_row off_column a tt, (ready a ha).0),
+    omega (arith, from_same t cores v (λ _. Unit {0}) tt kept off_row off_column a tt, (ready a ha).1),
+  )
+
+  table_steps : (u w : ℕ) → p u w ≡ false → stepped t cores (entry t cur) v u w ≡ stepped t cores (entry t old) v u w
+  table_steps u w none = still_steps t cores v (λ _. Unit {0}) tt kept off_row off_column u w tt tt none
 
 -- row u, of which the cells with the pieces passed are written
 module _ (j : Joint) (u : ℕ) (to : (task_at j).ancestor u j.v ≡ true) where
@@ -69,7 +87,7 @@ module _ (j : Joint) (u : ℕ) (to : (task_at j).ancestor u j.v ≡ true) where
         → Wrote (λ a b. eqb u a && eqb w b) (λ a b. value) cur new → Wrote (λ a b. eqb u a && passed j.behind next b) (through j old) old new
     row_turn next w value inside here without is =
         line_turn (λ a b. eqb u a) (λ a b. b) j.behind rest next w u w value inside here without
-        (is ∙ still_steps (task_at j) j.setting.now.cores j.v wrote off_row off_column u w (and_right (eqb u u) (passed j.behind rest w) (passed_not j.behind rest w here)))
+        (is ∙ table_steps (task_at j) j.setting.now.cores j.v wrote off_row off_column u w (and_right (eqb u u) (passed j.behind rest w) (passed_not j.behind rest w here)))
         (λ a b. refl) wrote
 
     -- and where no walk leads from v on it stays
@@ -99,7 +117,7 @@ module _ (j : Joint) {old cur : Table} (rest : ℕ) (wrote : Wrote (λ a b. pass
       wrote_join wrote row
       (λ a b h. let is = eqb-true u a (and_parts (eqb u a) ((task_at j).ancestor j.v b) h).0 in
       subst (λ x. through j cur x b ≡ through j old x b) is
-      (still_steps (task_at j) j.setting.now.cores j.v wrote rows_off_row rows_off_column u b (and_left (passed j.before rest u) ((task_at j).ancestor j.v b) (passed_not j.before rest u here))))
+      (table_steps (task_at j) j.setting.now.cores j.v wrote rows_off_row rows_off_column u b (and_left (passed j.before rest u) ((task_at j).ancestor j.v b) (passed_not j.before rest u here))))
       (λ a b. ap (λ x. x && (task_at j).ancestor j.v b) (passed_more j.before rest next u inside here without a)
       ∙ and-or_distrib_right (passed j.before rest a) (eqb u a) ((task_at j).ancestor j.v b))
 

@@ -48,7 +48,7 @@ module _ {t : Task} (law : Lawful t) (cores : ℕ) (m : Table) (u v w : ℕ) (to
   pub cells_stay : (cell m u v ≡ 0) ⊎ (cell m v w ≡ 0) → stepped t cores (entry t m) v u w ≡ cell m u w
   cells_stay none = stepped_stays t cores (entry t m) v u w (⊎_elim (λ e. inl (to_is ∙ e)) (λ e. inr (on_is ∙ e)) none) ∙ old_is
 
-  cells_join : (cell m u v ≡ 0 → ⊥) → (cell m v w ≡ 0 → ⊥)
+  pub cells_join : (cell m u v ≡ 0 → ⊥) → (cell m v w ≡ 0 → ⊥)
       → max (cell m u w) ((cell m u v + cell m v w) - twice t cores u v w) ≡ stepped t cores (entry t m) v u w
   cells_join to on =
       sym (stepped_joins t cores (entry t m) v u w (λ e. to (sym to_is ∙ e)) (λ e. on (sym on_is ∙ e))
