@@ -28,13 +28,13 @@ module _ (worst ran : List ℕ) (ended pieces early running short : ℕ) (more :
   answer = bit_or (bit_and running early) short
 
   -- what ends is early or runs its last tick
-  ends_also : EndsAlso p pieces early answer
+  pub ends_also : EndsAlso p pieces early answer
   ends_also k =
       member-or (bit_and running early) short k ∙ ap₂ (λ a b. a || b) (member-and running early k) (reach k)
       ∙ sym (and-or_distrib_left (member running k) (member early k) (eqb (get_or ran k 0 + 1) (get_or worst k 0)))
       ∙ ap (λ b. b && (member early k || eqb (get_or ran k 0 + 1) (get_or worst k 0))) (run k)
 
-  held_works : Works p pieces answer (platform_from worst more (bit_or ended answer))
+  pub held_works : Works p pieces answer (platform_from worst more (bit_or ended answer))
   held_works = record {
     worst = λ k. refl;
     ran = λ k. tick k ∙ ap (λ b. get_or ran k 0 + cond b 1 0) (run k);
