@@ -56,7 +56,8 @@ impl From<RankingRefusal> for Refusal {
     }
 }
 
-// A piece for each worst time, up to the first that is refused.
+// A piece for each worst time, up to the first that is refused. `alike` has the loop again: over an iterator that gives both, the
+// contract would speak of what an iterator gives.
 fn enter_all(worst: &[u32]) -> Result<Entering, PieceRefusal>
     ensures { EnterAllSays worst.now result }
 {

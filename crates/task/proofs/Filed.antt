@@ -1,15 +1,14 @@
 -- For whoever is handed a filed task: it is lawful, its worst times, how its edges are counted, and its relations turned round and as sets. Assumes nothing.
-use Rattle.std.proofs.Common.{◌≡◌, ℕ, ◌*◌, ◌<◌, ◌≤◌, Bool, true, false, cond, ◌&&◌, ◌↔◌, ltb, get_or, sym, refl, ap, ◌∙◌, ⊎_elim, arith}
+use Rattle.std.proofs.Common.{◌≡◌, ℕ, ◌+◌, ◌*◌, ◌<◌, ◌≤◌, Bool, true, false, cond, ◌&&◌, ◌↔◌, ltb, get_or, sym, refl, ap, ◌∙◌, ⊎_elim, arith}
 use mathlib.Core.Bool.{and-true, and-false}
-use Rattle.std.proofs.lemmas.Bool.{cases_Bool, cond_both, cond-true, and_parts, and_from, lt-ltb, le-ltb}
-use Rattle.sets.specs.Sets.{member, count, sum_over, size_of, SetOf}
-use Rattle.sets.proofs.Members.{first_below}
-use Rattle.sets.proofs.Sums.{sum_same, sum_cut, sum_small, sum_over_where}
+use Rattle.std.proofs.lemmas.Bool.{cases_Bool, cond_both, cond-true, and_parts, and_from, lt-ltb}
+use Rattle.sets.specs.Sets.{member, sum, count, size_of}
+use Rattle.sets.proofs.Sums.{sum_more, sum_cut, sum_small}
 use Rattle.sets.proofs.Counts.{count_same}
 use Rattle.theory.specs.Tasks.{Task, Leads, Lawful}
 use Rattle.theory.proofs.Lawfuls.{lawful_of}
 use Rattle.theory.proofs.Ancestors.{ancestor_ends}
-use Rattle.task.specs.Filing.{filed_task, edges_of, Related}
+use Rattle.task.specs.Filing.{filed_task, Related}
 use Rattle.task.specs.declared.stages.Filed.{Filed}
 
 pub filed_lawful : (f : Filed) → Lawful (filed_task f)
@@ -23,6 +22,10 @@ worst_is f k r l e = e ∙ cond-true (ltb k (filed_task f).pieces) ((filed_task 
 pub past_none : (n : ℕ) (R : ℕ → ℕ → Bool) → ((a b : ℕ) → R a b ≡ true → (a < n) × (b < n)) → (b a : ℕ) → n ≤ a → cond {A = ℕ} (R a b) 1 0 ≡ 0
 past_none n R ends b a l = ⊎_elim (λ e. let on = ends a b e in absurd (omega arith)) (λ e. ap (λ x. cond {A = ℕ} x 1 0) e) (cases_Bool (R a b))
 
+-- the edges to the pieces below i
+abbrev pub edges_below : Filed → ℕ → ℕ
+edges_below f i = sum i (λ b. count (filed_task f).pieces (λ a. (filed_task f).edge a b))
+
 module _ (f : Filed) where
   abbrev t : Task
   t = filed_task f
@@ -34,19 +37,13 @@ module _ (f : Filed) where
   few_here : (b : ℕ) → count t.pieces (λ a. t.edge a b) ≤ t.pieces * 1
   few_here b = sum_small t.pieces 1 (λ a. cond (t.edge a b) 1 0) (λ a _. cond_both (t.edge a b) 1 0 (λ x. x ≤ 1) (λ _. omega arith) (λ _. omega arith))
 
-  -- the sizes of the sets of predecessors, added up, are the edges, and there are at most 64 to each of at most 64 pieces
-  pub edges_summed : (pieces : ℕ) → SetOf 64 (λ k. ltb k t.pieces) pieces → sum_over pieces (λ k. size_of (get_or f.tables.predecessors k 0)) ≡ edges_of t
-  unfolding edges_of
-  edges_summed pieces first =
-      sum_over_where t.pieces pieces (λ _. true) (λ k. size_of (get_or f.tables.predecessors k 0)) f.tables.few
-      (λ k l. first_below t.pieces pieces f.tables.few first k ∙ le-ltb k t.pieces l)
-      (λ k l. first_below t.pieces pieces f.tables.few first k ∙ lt-ltb k t.pieces l)
-      ∙ sum_same t.pieces (λ k. size_of (get_or f.tables.predecessors k 0)) (λ b. count t.pieces (λ a. t.edge a b)) (λ k _. size_here k)
+  -- a turn of the loop that counts them
+  pub edges_more : (i s : ℕ) → s ≡ size_of (get_or f.tables.predecessors i 0) → edges_below f (i + 1) ≡ edges_below f i + s
+  edges_more i s e = sum_more i (λ b. count t.pieces (λ a. t.edge a b)) ∙ ap (λ x. edges_below f i + x) (sym (e ∙ size_here i))
 
-  pub edges_few : edges_of t ≤ 64 * 64
-  unfolding edges_of
-  edges_few =
-      omega (arith, sum_small t.pieces 64 (λ b. count t.pieces (λ a. t.edge a b)) (λ b _. omega (arith, few_here b, f.tables.few)), f.tables.few)
+  -- there are at most 64 to each
+  pub edges_few : (i : ℕ) → edges_below f i ≤ i * 64
+  edges_few i = sum_small i 64 (λ b. count t.pieces (λ a. t.edge a b)) (λ b _. omega (arith, few_here b, f.tables.few))
 
 -- ---- relations turned round
 

@@ -7,7 +7,7 @@ use crate::refusals::PieceRefusal;
 use crate::stages::{Entering, Linking, Tables};
 use sets::{first, table_of};
 
-// For each of n pieces the set of them all.
+// For each of n pieces the set of them all. That there are at most 64 is asked here, since n is a plain number.
 fn all_equal(n: usize) -> [u64; 64]
     requires { n ≤ 64 }
     ensures sets { Columns n (λ _ _. true) n result }
