@@ -55,6 +55,7 @@ impl<'t> Path<'t> {
     fn is_complete(&self) -> bool
         ensures { let t = filed_task self.now.task.now in (result ≡ true) ↔ ((v : ℕ) → v < t.pieces → t.edge self.now.last v ≡ false) }
     {
+        // a loop, since of a chain over the numbers it stays open what its answer says
         for v in 0..self.task.pieces() {
             if has(self.task.predecessors(v), self.last) {
                 return false;
