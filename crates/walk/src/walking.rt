@@ -50,8 +50,8 @@ impl<'t> Path<'t> {
         }
     }
 
-    // Whether its last piece is nobody's predecessor. Asked of predecessors, as all of the walk is: the chains that it is held
-    // against ask for successors.
+    // Whether its last piece is nobody's predecessor. The walk goes by predecessors alone: the chains that it is held against go by
+    // successors.
     fn is_complete(&self) -> bool
         ensures { let t = filed_task self.now.task.now in (result ≡ true) ↔ ((v : ℕ) → v < t.pieces → t.edge self.now.last v ≡ false) }
     {
