@@ -5,7 +5,7 @@ ghost use Rattle.theory.specs.Paths.{parallel as parallel_at, interferes as inte
 ghost use Rattle.task.specs.Filing.{filed_task};
 ghost use Rattle.numerator.specs.Tables.{Tabled};
 
-use sets::{first, table_of, with};
+use sets::{first, with};
 use task::stages::Filed;
 
 // The pieces parallel to piece v: all but v itself, its ancestors and its descendants.
@@ -29,5 +29,10 @@ fn interference(task: &Filed, v: usize) -> u64
 pub(crate) fn interference_table(task: &Filed) -> [u64; 64]
     ensures { Tabled (filed_task task.now) result }
 {
-    table_of(task.pieces(), |v| interference(task, v))
+    // Over the entries of the task's pieces alone: `table_of` goes over all 64, and a small task would pay for them.
+    let mut table = [0; 64];
+    for (v, set) in table[..task.pieces()].iter_mut().enumerate() {
+        *set = interference(task, v);
+    }
+    table
 }

@@ -1,14 +1,12 @@
--- The closure is asked for pieces of the task, and answers the interference set of each.
-use Rattle.std.proofs.Common.{get_or, rules, arith}
+-- Each turn writes the set of one more piece.
+use Rattle.std.proofs.Common.{arith}
 use Rattle.sets.specs.Sets.{SetOf}
+use Rattle.sets.proofs.Tables.{set_below}
 use Rattle.theory.specs.Paths.{interferes}
 use Rattle.task.specs.Filing.{filed_task}
-use Rattle.task.proofs.Filed.{filed_lawful}
 use Rattle.numerator.proofs.interfering.interference_table.Goals as goal
 
-pub returns : goal.returns
-returns c v l =
+pub loop-v-preserved : goal.loop-v-preserved
+loop-v-preserved c =
     let t = filed_task c.args.task.now in
-    let said = c.table_of.ensures.pieces v (omega (arith, (filed_lawful c.args.task.now).few)) (omega (arith, c.pieces.ensures)) in
-    let is : SetOf t.pieces (interferes t v) (get_or c.table_of.result v 0) = search rules in
-    is
+    set_below (λ v s. SetOf t.pieces (interferes t v) s) c.loop-v.set-items c.loop-v.v c.interference.result (omega arith) c.loop-v.invariant c.interference.ensures
